@@ -1,0 +1,51 @@
+-- 01, "Protection, byte by byte": the bytes that an entry matches.
+use Prim.Native.Nat.{ℕ, zero, suc, _+_, _-_, _*_, _/_, _%_, _^_, min}
+use mathlib.Core.Bool.{Bool, true, false, cond, _&&_}
+use mathlib.Core.List.{List}
+use lib.Dec.{leb, ltb, eqb}
+use lib.ListN.{getD}
+use Rattle.pmp.specs.declared.Span.{Span}
+
+-- physical memory is the bytes below this
+abbrev pub top : ℕ
+top = 2 ^ 56
+
+-- the number of ones at the low end of a word of n bits
+unfoldable pub trailingOnes : ℕ → ℕ → ℕ
+trailingOnes zero word = 0
+trailingOnes (suc n) word = cond (eqb (word % 2) 1) (suc (trailingOnes n (word / 2))) 0
+
+-- the bytes from low up to but not including high, cut at the end of memory
+abbrev pub span : ℕ → ℕ → Span
+span low high = record { low = min low top; high = min high top }
+
+-- NAPOT with t trailing ones in pmpaddr: the 2^(t+3) bytes from 4*(pmpaddr with those ones cleared)
+abbrev pub napot : ℕ → ℕ → Span
+napot addr t = span (4 * (addr - (2 ^ t - 1))) (4 * (addr - (2 ^ t - 1)) + 2 ^ (t + 3))
+
+-- by the A field: 0 off, 1 TOR from the register before, 2 NA4, 3 NAPOT
+unfoldable pub spanOf : ℕ → ℕ → ℕ → Span
+spanOf zero addr before = span 0 0
+spanOf (suc zero) addr before = span (4 * before) (4 * addr)
+spanOf (suc (suc zero)) addr before = span (4 * addr) (4 * addr + 4)
+spanOf (suc (suc (suc a))) addr before = napot addr (trailingOnes 64 addr)
+
+-- the A field of a configuration byte
+abbrev pub fieldA : ℕ → ℕ
+fieldA cfg = cfg / 8 % 4
+
+-- pmpaddr(i-1), and 0 for entry 0
+abbrev pub addressBefore : List ℕ → ℕ → ℕ
+addressBefore addrs zero = 0
+addressBefore addrs (suc i) = getD addrs i 0
+
+-- the bytes of entry i, for sixteen configuration bytes and sixteen address registers
+abbrev pub entrySpan : List ℕ → List ℕ → ℕ → Span
+entrySpan cfgs addrs i = spanOf (fieldA (getD cfgs i 0)) (getD addrs i 0) (addressBefore addrs i)
+
+abbrev pub contains : Span → ℕ → Bool
+contains s byte = leb (s .low) byte && ltb byte (s .high)
+
+-- entry i matches the byte
+abbrev pub matches : List ℕ → List ℕ → ℕ → ℕ → Bool
+matches cfgs addrs i byte = contains (entrySpan cfgs addrs i) byte
