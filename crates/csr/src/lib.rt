@@ -1,0 +1,17 @@
+// Control and status registers: who may access which, what a read gives, and what a write stores.
+use registers::Pmp;
+use registers::Registers;
+
+// What a CSR step does. `Read` is no write attempt; the other three are, even with operand 0.
+pub enum Operation {
+    Write,
+    Set,
+    Clear,
+    Read,
+}
+
+// All registers of a hart.
+pub struct State {
+    pub registers: Registers,
+    pub pmp: Pmp,
+}

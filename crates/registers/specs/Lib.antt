@@ -1,0 +1,5 @@
+-- The definitions that the contracts cite.
+pub mod Update
+pub mod Status
+pub mod Hold
+pub mod Effective
