@@ -36,7 +36,7 @@ levelWritten l n value =
       scratch = cond (eqb n 0x40) value (l .scratch);
       epc = cond (eqb n 0x41) (value - value % 4) (l .epc);
       cause = cond (eqb n 0x42) (bitAnd value 0x800000000000003F) (l .cause);
-      tval = cond (eqb n 0x43) value (l .tval)
+      tval = cond (eqb n 0x43) value (l .tval);
     }
 
 -- mideleg, mie and the software bits of mip keep the bits a hart can hold
@@ -101,7 +101,7 @@ pmpWritten p n value =
     (cond (eqb n 0x3A2) (record { cfgs = configsWritten 8 8 value (p .cfgs); addrs = p .addrs })
     (record {
       cfgs = p .cfgs;
-      addrs = set (p .addrs) (n - 0x3B0) (addressWritten (p .cfgs) (n - 0x3B0) (getD (p .addrs) (n - 0x3B0) 0) value)
+      addrs = set (p .addrs) (n - 0x3B0) (addressWritten (p .cfgs) (n - 0x3B0) (getD (p .addrs) (n - 0x3B0) 0) value);
     }))
 
 -- ---- a write, a set, a clear
