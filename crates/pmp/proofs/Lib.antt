@@ -1,0 +1,2 @@
+-- Laws of the definitions, which the functions' proofs and other crates cite.
+pub mod SearchLaws
