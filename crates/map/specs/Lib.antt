@@ -1,0 +1,4 @@
+-- The definitions that the contracts cite.
+pub mod Lookup
+pub mod Ranges
+pub mod Query

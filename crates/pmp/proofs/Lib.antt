@@ -1,0 +1,4 @@
+-- Laws of the definitions, which the functions' proofs and other crates cite.
+pub mod SearchLaws
+pub mod RuleLaws
+pub mod Owner

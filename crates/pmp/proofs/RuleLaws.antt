@@ -1,0 +1,66 @@
+-- Laws of the byte rule, by cases. Assumes nothing.
+use mathlib.Core.Path.{_≡_, refl, sym, ap, _∙_}
+use mathlib.Core.Bool.{Bool, true, false, cond, _||_}
+use mathlib.Core.Logic.{_⊎_, inl, inr, ⊎-elim}
+use mathlib.Core.List.{List}
+use Prim.Native.Nat.{ℕ, _+_, _-_, _≤_, _<_}
+use native.Mathlib.Omega.{arith}
+use lib.Dec.{leb, eqb}
+use lib.ListN.{getD}
+use borrow.Author.Tests.{lt-ltb, le-ltb, le-leb, lt-leb, eqb-true}
+use Rattle.pmp.specs.declared.Mode.{Mode}
+use Rattle.pmp.specs.declared.Access.{Access}
+use Rattle.pmp.specs.declared.Decision.the-variants.{Fault, Refused}
+use Rattle.pmp.specs.Number.{faultCause}
+use Rattle.pmp.specs.Search.{anyByte, everyByte}
+use Rattle.pmp.specs.Entry.{top, matches}
+use Rattle.pmp.specs.Rule.{entryDecides, noneDecides, lowestMatch, matchDecides, byteRule, isSize, checked}
+use Rattle.pmp.proofs.SearchLaws.{any-none, any-some}
+
+-- an access that ends at or below the limit has no byte at or above it, and any other of at least one byte has
+pub none-beyond : (limit size address : ℕ) → address + size ≤ limit → anyByte (leb limit) size address ≡ false
+none-beyond limit size address h = any-none (leb limit) size address (λ b l g. lt-leb limit b (omega arith))
+
+pub some-beyond : (limit size address : ℕ) → 0 < size → limit < address + size → anyByte (leb limit) size address ≡ true
+some-beyond limit size address p h =
+    any-some (leb limit) size address (address + size - 1) (omega arith) (omega arith) (le-leb limit (address + size - 1) (omega arith))
+
+module _ (cfgs addrs : List ℕ) (mode : Mode) (access : Access) (address size : ℕ) where
+  pub match-decides : (i : ℕ) (all : Bool) → i < 16 → everyByte (matches cfgs addrs i) size address ≡ all
+      → matchDecides cfgs addrs mode access address size i ≡ cond all (entryDecides mode access (getD cfgs i 0)) (Fault (faultCause access))
+  match-decides i all h e = rw (lt-ltb i 16 h, e)
+
+  pub none-decides : (i : ℕ) → 16 ≤ i → matchDecides cfgs addrs mode access address size i ≡ noneDecides mode access
+  none-decides i h = rw (le-ltb i 16 h)
+
+  -- below the end of memory the lowest matching entry decides, and past it the access faults
+  pub inside-decides : address + size ≤ top
+      → byteRule cfgs addrs mode access address size ≡ matchDecides cfgs addrs mode access address size (lowestMatch cfgs addrs address size)
+  unfolding byteRule
+  inside-decides h = rw (none-beyond top size address h)
+
+  pub beyond-faults : 0 < size → top < address + size → byteRule cfgs addrs mode access address size ≡ Fault (faultCause access)
+  unfolding byteRule
+  beyond-faults p h = rw (some-beyond top size address p h)
+
+  pub checked-size : isSize size ≡ true → checked cfgs addrs mode access address size ≡ byteRule cfgs addrs mode access address size
+  unfolding checked
+  checked-size e = rw e
+
+  pub checked-refused : isSize size ≡ false → checked cfgs addrs mode access address size ≡ Refused 1
+  unfolding checked
+  checked-refused e = rw e
+
+or-cases : (a b : Bool) → (a || b) ≡ true → (a ≡ true) ⊎ (b ≡ true)
+or-cases true b e = inl refl
+or-cases false b e = inr e
+
+-- a size is at least 1 and at most 8
+pub size-bounds : (size : ℕ) → isSize size ≡ true → (0 < size) × (size ≤ 8)
+size-bounds n e =
+    ⊎-elim (λ x. let q : n ≡ 1 = eqb-true n 1 x in omega arith)
+    (λ y. ⊎-elim (λ x. let q : n ≡ 2 = eqb-true n 2 x in omega arith)
+    (λ y. ⊎-elim (λ x. let q : n ≡ 4 = eqb-true n 4 x in omega arith)
+    (λ x. let q : n ≡ 8 = eqb-true n 8 x in omega arith) (or-cases (eqb n 4) (eqb n 8) y))
+    (or-cases (eqb n 2) (eqb n 4 || eqb n 8) y))
+    (or-cases (eqb n 1) (eqb n 2 || (eqb n 4 || eqb n 8)) e)
