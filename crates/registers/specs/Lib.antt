@@ -3,3 +3,4 @@ pub mod Update
 pub mod Status
 pub mod Hold
 pub mod Effective
+pub mod Same

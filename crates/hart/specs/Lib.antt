@@ -1,0 +1,5 @@
+-- The definitions that the contracts cite.
+pub mod Effects
+pub mod Steps
+pub mod Queries
+pub mod Runs

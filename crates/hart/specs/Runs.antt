@@ -1,0 +1,13 @@
+-- 01, "What has to be nailed": a list of steps, each given what the one before left.
+use Prim.Native.Nat.{ℕ}
+use mathlib.Core.List.{List, [], _∷_}
+use Rattle.map.specs.declared.Map.{Map}
+use Rattle.hart.specs.declared.Hart.{Hart}
+use Rattle.hart.specs.declared.Step.{Step}
+use Rattle.hart.specs.Effects.{judged}
+use Rattle.hart.specs.Steps.{stepped}
+
+-- the state that the step rules and the refusal table make of the start and the steps, with no map read: a refused step leaves what went in
+unfoldable pub afterAll : Hart → List Step → Hart
+afterAll h [] = h
+afterAll h (s ∷ steps) = afterAll (judged h s .hart) steps
