@@ -2,4 +2,6 @@
 pub mod Effects
 pub mod Steps
 pub mod Queries
+pub mod Decode
 pub mod Runs
+pub mod Worked

@@ -40,3 +40,15 @@ pub struct Effect {
     pub hart: Hart,
     pub answer: Answer,
 }
+
+// The step that three numbers name, if they name one.
+pub enum Decoded {
+    Formed(Step),
+    Nothing,
+}
+
+// What a run of steps leaves.
+pub struct Left {
+    pub hart: Hart,
+    pub map: Map,
+}

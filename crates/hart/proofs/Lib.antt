@@ -1,0 +1,2 @@
+-- Laws of the definitions, and the larger theorems.
+pub mod Worked
