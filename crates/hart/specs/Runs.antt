@@ -2,7 +2,7 @@
 use mathlib.Core.List.{List, [], _∷_}
 use Rattle.map.specs.declared.Map.{Map}
 use Rattle.hart.specs.declared.Hart.{Hart}
-use Rattle.hart.specs.declared.Left.{Left}
+use Rattle.hart.specs.declared.Mapped.{Mapped}
 use Rattle.hart.specs.declared.Step.{Step}
 use Rattle.hart.specs.Effects.{judged}
 use Rattle.hart.specs.Steps.{stepped}
@@ -13,6 +13,6 @@ afterAll h [] = h
 afterAll h (s ∷ steps) = afterAll (judged h s .hart) steps
 
 -- the state and the map that the steps hand on from one to the next
-unfoldable pub leftBy : Hart → Map → List Step → Left
+unfoldable pub leftBy : Hart → Map → List Step → Mapped
 leftBy h map [] = record { hart = h; map = map }
 leftBy h map (s ∷ steps) = leftBy (stepped h map s .hart) (stepped h map s .map) steps

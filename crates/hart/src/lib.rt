@@ -6,6 +6,9 @@ use registers::Pmp;
 use registers::Registers;
 use trap::Answer;
 
+mod step;
+
+// Every register of a hart as a raw number: it can hold what no hart can, and is then refused.
 pub struct Hart {
     pub registers: Registers,
     pub pmp: Pmp,
@@ -47,8 +50,8 @@ pub enum Decoded {
     Nothing,
 }
 
-// What a run of steps leaves.
-pub struct Left {
+// A hart with a map.
+pub struct Mapped {
     pub hart: Hart,
     pub map: Map,
 }
