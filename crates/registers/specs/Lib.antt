@@ -2,4 +2,5 @@
 pub mod Update
 pub mod Status
 pub mod Hold
+pub mod Same
 pub mod Effective
