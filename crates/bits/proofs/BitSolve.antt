@@ -12,6 +12,7 @@ use lib.Bits.{bitAnd, bitOr}
 use lib.Dec.{eqb, ltb}
 use lib.Pow.{pow-mono}
 use lib.ListN.{length, getD}
+use Rattle.bits.proofs.Conjunction.{both}
 use Rattle.bits.proofs.BitLaws.{bit, bit-and, bit-or, ext}
 
 pub data E : Type 0 where
@@ -74,10 +75,6 @@ sound (imp a b g) ρ t =
 abbrev pub envs : ℕ → (List ℕ → Bool) → Bool
 envs zero P = P []
 envs (suc n) P = envs n (λ β. P (0 ∷ β)) && envs n (λ β. P (1 ∷ β))
-
-both : (a b : Bool) → (a && b) ≡ true → (a ≡ true) × (b ≡ true)
-both true b p = (refl, p)
-both false b p = (p, cc)
 
 digit : (Q : ℕ → Type 0) → Q 0 → Q 1 → (b : ℕ) → b < 2 → Q b
 digit Q p q zero h = p

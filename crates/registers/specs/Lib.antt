@@ -2,5 +2,6 @@
 pub mod Update
 pub mod Status
 pub mod Hold
+pub mod Same
 pub mod Effective
 pub mod Same

@@ -1,4 +1,15 @@
 // The registers of a hart, each as a raw number: a state that no hart can hold can be given, and is refused.
+mod effective;
+mod hold;
+mod same;
+
+pub use effective::effective_mode;
+pub use effective::mode_of;
+pub use hold::pmp_can_hold;
+pub use hold::registers_can_hold;
+pub use hold::reset_pmp;
+pub use hold::reset_registers;
+pub use same::same_pmp;
 
 // A level that traps are taken to. Machine and supervisor level have the same set of trap registers.
 pub enum Level {

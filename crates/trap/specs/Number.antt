@@ -13,6 +13,11 @@ abbrev pub causeNumber : Trap → ℕ
 causeNumber (Exception c) = c
 causeNumber (Interrupt i) = 2 ^ 63 + i
 
+-- the number of an interrupt; an exception has none
+abbrev pub interruptNumber : Trap → ℕ
+interruptNumber (Exception c) = 0
+interruptNumber (Interrupt i) = i
+
 -- 0 done; 1 done with a value; 2 done with yes (1) or no (0); 3 granted; 4 trapped, with cause and destination mode; 5 refused, with its number
 abbrev pub answerNumbers : Answer → List ℕ
 answerNumbers Done = 0 ∷ 0 ∷ 0 ∷ []

@@ -2,6 +2,11 @@
 use registers::Level;
 use registers::Registers;
 
+pub mod enter;
+pub mod interrupt;
+pub mod returns;
+pub mod time;
+
 // What a trap is taken for: an exception's cause, or an interrupt's number.
 pub enum Trap {
     Exception(u64),
