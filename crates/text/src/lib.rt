@@ -127,6 +127,9 @@ pub fn read(text: &[u8]) -> Reading
     if check::same(text, &again) {
         Reading { ok: true, words }
     } else {
-        Reading { ok: false, words: [0; 41] }
+        Reading {
+            ok: false,
+            words: [0; 41],
+        }
     }
 }

@@ -2,6 +2,7 @@ use Rattle.text.proofs.Form.{text-copied}
 use Rattle.text.specs.Text.{writtenTo}
 use mathlib.Core.Path.{sym}
 use borrow.Author.Tests.{lt-leb, le-leb}
+use native.Mathlib.Omega.{arith}
 use borrow.Author.Needs.{needs}
 use lib.ListN.{length}
 use Rattle.text.proofs.write.Statement.{statement}
@@ -9,7 +10,7 @@ use Rattle.text.proofs.write.Tie as tie
 
 returns : tie.Need-returns
 unfolding writtenTo
-returns c = let e = lt-leb 1027 (length (c .before .before .args .buffer .now)) (c .if1 .taken) in (sym e, rw e)
+returns c = let e = lt-leb 1027 (length (c .before .before .args .buffer .now)) (omega arith) in (sym e, rw e)
 
 returns-2 : tie.Need-returns-2
 returns-2 c =
