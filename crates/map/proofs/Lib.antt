@@ -3,3 +3,5 @@ pub mod Lawful
 pub mod Painting
 pub mod MapLaws
 pub mod Edges
+pub mod LookupLaws
+pub mod QueryLaws
