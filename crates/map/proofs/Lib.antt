@@ -1,0 +1,7 @@
+-- Laws of the definitions, which the functions' proofs and other crates cite.
+pub mod Lawful
+pub mod Painting
+pub mod MapLaws
+pub mod Edges
+pub mod LookupLaws
+pub mod QueryLaws

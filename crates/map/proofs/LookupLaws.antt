@@ -1,0 +1,71 @@
+-- The range that holds a byte: what is found holds it, how a loop finds it, and where it is found on a lawful list. Assumes nothing.
+use Prim.Native.Nat.{ℕ, suc, _+_, _≤_, _<_}
+use mathlib.Core.Path.{_≡_, refl, subst}
+use mathlib.Core.Bool.{cond}
+use mathlib.Core.List.{List, [], _∷_}
+use mathlib.Core.Logic.{_⊎_, inl, inr}
+use native.Mathlib.Omega.{arith}
+use native.Mathlib.Numerals.{add-one}
+use lib.ListN.{length, getD, take, drop, drop-of-length-le}
+use lib.Seq.{drop-cons, getD-take, length-take-le}
+use borrow.Author.Tests.{le-leb, lt-leb}
+use Rattle.pmp.specs.Entry.{top}
+use Rattle.map.specs.declared.Range.{Range}
+use Rattle.map.specs.declared.Found.{Found}
+use Rattle.map.specs.declared.Found.the-variants.{At, Nothing}
+use Rattle.map.specs.Lookup.{holdsByte, findRange}
+use Rattle.map.proofs.Lawful.{less, Lawful, Run, head-run}
+
+pub found-holds : (rs : List Range) (byte : ℕ) (r : Range) → findRange rs byte ≡ At r → (r .first ≤ byte) × (byte ≤ r .last)
+found-holds [] byte r e = absurd (let z : _≡_ {A = ℕ} 0 1 = cc in omega arith)
+found-holds (s ∷ rs) byte r e = go (less byte (s .first)) (less (s .last) byte) (found-holds rs byte r)
+  where
+    go : (byte < s .first) ⊎ (s .first ≤ byte) → (s .last < byte) ⊎ (byte ≤ s .last)
+        → (findRange rs byte ≡ At r → (r .first ≤ byte) × (byte ≤ r .last)) → (r .first ≤ byte) × (byte ≤ r .last)
+    go (inl x) y ih = ih (rw (lt-leb (s .first) byte x) at e)
+    go (inr x) (inl y) ih = ih (rw (le-leb (s .first) byte x, lt-leb byte (s .last) y) at e)
+    go (inr x) (inr y) ih =
+        let q : At s ≡ At r = rw (le-leb (s .first) byte x, le-leb byte (s .last) y) at e in
+        let p : s ≡ r = cc in
+        subst (λ (z : Range). (z .first ≤ byte) × (byte ≤ z .last)) p (x, y)
+
+-- the search from range k on, of the first n
+pub find-step : (n k : ℕ) (rs : List Range) (d : Range) (byte : ℕ) → k < n → n ≤ length rs
+    → findRange (drop k (take n rs)) byte
+    ≡ cond (holdsByte (getD rs k d) byte) (At (getD rs k d)) (findRange (drop (k + 1) (take n rs)) byte)
+find-step n k rs d byte h l =
+    let i : k < length (take n rs) = omega (arith, length-take-le n rs l) in
+    rw (drop-cons (take n rs) k d i, getD-take n rs k d h, add-one)
+
+pub find-end : (n : ℕ) (rs : List Range) (byte : ℕ) → n ≤ length rs → findRange (drop n (take n rs)) byte ≡ Nothing
+find-end n rs byte l = rw (drop-of-length-le (take n rs) {i = n} (omega (arith, length-take-le n rs l)))
+
+-- the byte's range, and what is known of it
+pub record Hit (owner : ℕ → ℕ) (rs : List Range) (byte : ℕ) : Type 0 where
+  pub it : Range
+  pub found : findRange rs byte ≡ At it
+  pub run : Run owner it
+  pub from : it .first ≤ byte
+  pub to : byte ≤ it .last
+
+-- on a lawful list one range holds the byte
+pub hit : (owner : ℕ → ℕ) (rs : List Range) (before from byte : ℕ) → Lawful owner before from rs → from ≤ byte → byte < top → Hit owner rs byte
+hit owner [] before from byte l h k = absurd (omega (arith, l))
+hit owner (r ∷ rs) before from byte l h k = go (less (r .last) byte) (λ x. hit owner rs (r .owner) (suc (r .last)) byte (l .1) x k)
+  where
+    go : (r .last < byte) ⊎ (byte ≤ r .last) → (suc (r .last) ≤ byte → Hit owner rs byte) → Hit owner (r ∷ rs) byte
+    go (inl x) ih = let t = ih x in
+        record {
+          it = t .it;
+          found = rw (le-leb (r .first) byte (omega (arith, l .0 .starts)), lt-leb byte (r .last) x) (t .found);
+          run = t .run;
+          from = t .from;
+          to = t .to;
+        }
+    go (inr x) ih = record {
+      it = r;
+      found = rw (le-leb (r .first) byte (omega (arith, l .0 .starts)), le-leb byte (r .last) x);
+      run = head-run owner before from r rs l;
+      from = omega (arith, l .0 .starts);
+      to = x;
+    }

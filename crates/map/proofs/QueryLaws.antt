@@ -1,0 +1,108 @@
+-- A query on the compiled map answers as the byte rule does, and it reads one range. Assumes nothing.
+use Prim.Native.Nat.{ℕ, suc, _+_, _-_, _≤_, _<_}
+use mathlib.Core.Path.{_≡_, refl, sym, ap, _∙_}
+use mathlib.Core.Bool.{Bool, true, false, cond}
+use mathlib.Core.List.{List}
+use mathlib.Core.Logic.{_⊎_, inl, inr}
+use native.Mathlib.Omega.{arith}
+use lib.Dec.{leb}
+use borrow.Author.Tests.{le-leb, lt-leb, leb-true}
+use Rattle.pmp.specs.declared.Mode.{Mode}
+use Rattle.pmp.specs.declared.Access.{Access}
+use Rattle.pmp.specs.declared.Decision.{Decision}
+use Rattle.pmp.specs.declared.Decision.the-variants.{Fault, Refused}
+use Rattle.pmp.specs.Number.{faultCause}
+use Rattle.pmp.specs.Search.{anyByte, everyByte}
+use Rattle.pmp.specs.Entry.{top}
+use Rattle.pmp.specs.Rule.{none, ownerOf, ownerDecides, isSize, byteRule}
+use Rattle.pmp.proofs.SearchLaws.{contradiction, not-true-false, every-all, every-passes}
+use Rattle.pmp.proofs.RuleLaws.{none-beyond, some-beyond, beyond-faults, size-bounds}
+use Rattle.pmp.proofs.Owner.{owner-bound, one-owner, two-owners}
+use Rattle.map.specs.declared.Range.{Range}
+use Rattle.map.specs.declared.Map.{Map}
+use Rattle.map.specs.declared.Found.the-variants.{At}
+use Rattle.map.specs.Lookup.{holdsByte, findRange, rangesIn}
+use Rattle.map.specs.Ranges.{rangesOf, compiled}
+use Rattle.map.specs.Query.{rangeDecides, queried}
+use Rattle.map.proofs.Lawful.{less}
+use Rattle.map.proofs.LookupLaws.{Hit, hit}
+use Rattle.map.proofs.MapLaws.{lawful-ranges, read-back}
+
+-- a range that holds the first byte holds all exactly where it reaches the last
+pub holds-all : (r : Range) (size address : ℕ) → 0 < size → r .first ≤ address → address ≤ r .last
+    → everyByte (holdsByte r) size address ≡ leb (size - 1) (r .last - address)
+holds-all r size address p f l = go (less (r .last - address) (size - 1))
+  where
+    go : (r .last - address < size - 1) ⊎ (size - 1 ≤ r .last - address)
+        → everyByte (holdsByte r) size address ≡ leb (size - 1) (r .last - address)
+    go (inl x) =
+        let past : holdsByte r (suc (r .last)) ≡ false =
+        rw (le-leb (r .first) (suc (r .last)) (omega arith), lt-leb (suc (r .last)) (r .last) (omega arith)) in
+        rw (lt-leb (size - 1) (r .last - address) x)
+        (not-true-false (everyByte (holdsByte r) size address)
+        (λ t. contradiction (every-passes (holdsByte r) size address (suc (r .last)) t (omega arith) (omega arith)) past))
+    go (inr x) =
+        rw (le-leb (size - 1) (r .last - address) x)
+        (every-all (holdsByte r) size address
+        (λ b u v. rw (le-leb (r .first) b (omega arith), le-leb b (r .last) (omega arith))))
+
+module _ (cfgs : List ℕ) (mode : Mode) (access : Access) (address size : ℕ) where
+  -- a map's range is read once the size is right and all bytes lie in memory
+  pub reads-range : (map : Map) → isSize size ≡ true → address + size ≤ top
+      → queried cfgs map mode access address size ≡ rangeDecides cfgs mode access address size (findRange (rangesIn map) address)
+  unfolding queried
+  reads-range map e h = rw (e, none-beyond top size address h)
+
+  pub beyond-query : (map : Map) → isSize size ≡ true → top < address + size → queried cfgs map mode access address size ≡ Fault (faultCause access)
+  unfolding queried
+  beyond-query map e h = rw (e, some-beyond top size address (size-bounds size e .0) h)
+
+  pub size-refused : (map : Map) → isSize size ≡ false → queried cfgs map mode access address size ≡ Refused 1
+  unfolding queried
+  size-refused map e = rw e
+
+  module _ (addrs : List ℕ) where
+    -- the byte's range decides as the byte rule does
+    hit-decides : 0 < size → address + size ≤ top → (h : Hit (ownerOf cfgs addrs) (rangesOf cfgs addrs) address)
+        → rangeDecides cfgs mode access address size (At (h .it)) ≡ byteRule cfgs addrs mode access address size
+    hit-decides p q h =
+        let e : ownerOf cfgs addrs address ≡ h .it .owner = h .run .owned address (h .from) (h .to) in
+        rw (
+          le-leb (h .it .owner) none (omega (arith, owner-bound cfgs addrs address)),
+          holds-all (h .it) size address p (h .from) (h .to),
+        )
+        (go (less (h .it .last - address) (size - 1)))
+      where
+        go : (h .it .last - address < size - 1) ⊎ (size - 1 ≤ h .it .last - address)
+            → cond (leb (size - 1) (h .it .last - address)) (ownerDecides cfgs mode access (h .it .owner)) (Fault (faultCause access))
+            ≡ byteRule cfgs addrs mode access address size
+        go (inl x) =
+            rw (lt-leb (size - 1) (h .it .last - address) x)
+            (sym (two-owners cfgs addrs address size mode access (suc (h .it .last)) address q
+            (omega (arith, h .to)) (omega (arith, h .to)) (omega arith) (omega arith)
+            (λ d. h .run .ends (omega (arith, h .to)) (d ∙ h .run .owned address (h .from) (h .to)))))
+        go (inr x) =
+            rw (le-leb (size - 1) (h .it .last - address) x)
+            (sym (one-owner cfgs addrs address size mode access (h .it .owner) p q
+            (λ b u v. h .run .owned b (omega (arith, h .from)) (omega (arith, h .to)))))
+
+    -- the query on the compiled map is the byte rule
+    pub query-rule : isSize size ≡ true → queried cfgs (compiled cfgs addrs) mode access address size ≡ byteRule cfgs addrs mode access address size
+    query-rule e = go (less top (address + size))
+      where
+        p : 0 < size
+        p = size-bounds size e .0
+
+        go : (top < address + size) ⊎ (address + size ≤ top)
+            → queried cfgs (compiled cfgs addrs) mode access address size ≡ byteRule cfgs addrs mode access address size
+        go (inl x) = beyond-query (compiled cfgs addrs) e x ∙ sym (beyond-faults cfgs addrs mode access address size p x)
+        go (inr x) =
+            let h = hit (ownerOf cfgs addrs) (rangesOf cfgs addrs) 17 0 address (lawful-ranges cfgs addrs) (omega arith) (omega (arith, p)) in
+            reads-range (compiled cfgs addrs) e x ∙ rw (read-back cfgs addrs, h .found) (hit-decides p x h)
+
+-- two maps whose lowest-numbered ranges that hold the first byte are the same, or missing in both, answer the same
+pub one-range : (cfgs cfgs′ : List ℕ) (map map′ : Map) (mode : Mode) (access : Access) (address size : ℕ)
+    → cfgs ≡ cfgs′ → findRange (rangesIn map) address ≡ findRange (rangesIn map′) address
+    → queried cfgs map mode access address size ≡ queried cfgs′ map′ mode access address size
+unfolding queried
+one-range cfgs cfgs′ map map′ mode access address size c e = rw (c, e)
