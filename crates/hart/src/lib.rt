@@ -6,8 +6,6 @@ use registers::Pmp;
 use registers::Registers;
 use trap::Answer;
 
-mod step;
-
 // Every register of a hart as a raw number: it can hold what no hart can, and is then refused.
 pub struct Hart {
     pub registers: Registers,

@@ -4,4 +4,3 @@ pub mod Status
 pub mod Hold
 pub mod Same
 pub mod Effective
-pub mod Same
