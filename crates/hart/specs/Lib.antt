@@ -2,6 +2,8 @@
 pub mod Effects
 pub mod Steps
 pub mod Queries
+pub mod Saved
 pub mod Decode
 pub mod Runs
+pub mod Faithful
 pub mod Worked
