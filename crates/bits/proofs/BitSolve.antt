@@ -110,7 +110,8 @@ abbrev pub smallG : G → Bool
 smallG (eq a b) = small a && small b
 smallG (imp a b g) = small a && (small b && smallG g)
 
-no-bit : (n k : ℕ) → n < 2 ^ 64 → 64 ≤ k → bit n k ≡ 0
+-- past its 64 places a word has no bit
+pub no-bit : (n k : ℕ) → n < 2 ^ 64 → 64 ≤ k → bit n k ≡ 0
 no-bit n k h l = rw (div-eq-of-lt (lt-of-lt-of-le h (pow-mono l)))
 
 sem-high : (e : E) (β : List ℕ) (k : ℕ) → small e ≡ true → 64 ≤ k → sem k β e ≡ sem 64 β e

@@ -1,6 +1,6 @@
 -- The first number of a list that passes a test, and the loop that looks for it: the numbers from i on decide as all do. Assumes nothing.
-use mathlib.Core.Path.{_≡_, refl, sym, ap, _∙_}
-use mathlib.Core.Bool.{Bool, true, false, cond, _&&_}
+use mathlib.Core.Path.{_≡_, refl}
+use mathlib.Core.Bool.{Bool, true, false, cond}
 use mathlib.Core.List.{List, [], _∷_}
 use Prim.Native.Nat.{ℕ, _+_, _≤_, _<_}
 use native.Mathlib.Numerals.{add-one}
@@ -9,14 +9,10 @@ use lib.Seq.{drop-cons}
 use lib.Dec.{ltb}
 use borrow.Author.Tests.{ltb-true}
 use native.Mathlib.Omega.{arith}
+use Rattle.bits.proofs.Conjunction.{both}
 use Rattle.registers.specs.Hold.{all}
-use Rattle.trap.specs.declared.Choice.{Choice}
 use Rattle.trap.specs.declared.Choice.the-variants.{Take, Nothing}
 use Rattle.trap.specs.Interrupt.{firstOf, priority}
-
-both : (a b : Bool) → (a && b) ≡ true → (a ≡ true) × (b ≡ true)
-both true b p = (refl, p)
-both false b p = (p, cc)
 
 module _ (test : ℕ → Bool) (xs : List ℕ) where
   first-at : (i : ℕ) → i < length xs → firstOf test (drop i xs) ≡ cond (test (getD xs i 0)) (Take (getD xs i 0)) (firstOf test (drop (i + 1) xs))

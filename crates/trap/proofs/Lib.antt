@@ -1,3 +1,4 @@
--- Laws that belong to no one function.
-pub mod Words
+-- The laws that the proofs and the crates above cite.
 pub mod First
+pub mod Status
+pub mod Holdable
