@@ -17,10 +17,10 @@ use Rattle.pmp.specs.Rule.{ownerOf}
 use Rattle.pmp.proofs.SearchLaws.{contradiction, lowest-fails, lowest-passes, lowest-unique, lowest-same}
 use Rattle.map.specs.declared.Range.{Range}
 use Rattle.map.specs.declared.Map.{Map}
-use Rattle.map.specs.Ranges.{range, rangesOf, padding, mapOf, compiled}
-use Rattle.map.specs.Sweep.{settled, spansIn, rangeFrom}
+use Rattle.map.specs.Ranges.{range, painted, padding, mapOf}
+use Rattle.map.specs.Sweep.{Settled, rangeFrom}
 use Rattle.map.proofs.Lawful.{less, Lawful, Run, head-run, same-run, from-bound}
-use Rattle.map.proofs.MapLaws.{span-bound, lawful-ranges, count-bound}
+use Rattle.map.proofs.Painting.{Short, painted-lawful}
 
 -- ---- a loop over the entries: i is the next one
 
@@ -63,13 +63,8 @@ before s b h = rw (lt-leb (s .low) b h)
 behind : (s : Span) (b : ℕ) → s .high ≤ b → contains s b ≡ false
 behind s b h = and-false (leb (s .low) b) (ltb b (s .high)) (le-ltb b (s .high) h)
 
-abbrev lowestOwner : (ℕ → Span) → ℕ → ℕ
+abbrev pub lowestOwner : (ℕ → Span) → ℕ → ℕ
 lowestOwner spans b = lowest (λ k. contains (spans k) b) 16 0
-
--- entries that match a byte or stand at 0, within memory
-pub record Settled (spans : ℕ → Span) : Type 0 where
-  pub some : (k : ℕ) → 0 < spans k .low → spans k .low < spans k .high
-  pub below : (k : ℕ) → spans k .high ≤ top
 
 module _ (spans : ℕ → Span) (at : ℕ) (known : Settled spans) where
   -- no entry below i matches a byte from `at` up to `end`, and one of them starts there unless memory ends
@@ -127,8 +122,8 @@ module _ (spans : ℕ → Span) (at : ℕ) (known : Settled spans) where
           let s : suc (min end (spans i .high) - 1) ≡ end = omega (arith, f .ahead) in
           not-owner i end f (omega arith) (rw s at e)
 
-  later-free : (i end : ℕ) → at < spans i .low → Free i end → Free (suc i) (min end (spans i .low))
-  later-free i end l f = record {
+  later-free : (i end : ℕ) → i < 16 → at < spans i .low → Free i end → Free (suc i) (min end (spans i .low))
+  later-free i end h l f = record {
     ahead = omega (arith, f .ahead);
     bound = omega (arith, f .bound);
     free = λ k b u x y.
@@ -142,7 +137,7 @@ module _ (spans : ℕ → Span) (at : ℕ) (known : Settled spans) where
           → (min end (spans i .low) ≡ top) ⊎ ((k : ℕ) × (k < suc i) × (contains (spans k) (min end (spans i .low)) ≡ true))
       go (inl w) =
           let e : min end (spans i .low) ≡ spans i .low = omega arith in
-          inr (i, omega arith, rw e (inside (spans i) (spans i .low) (omega arith) (known .some i (omega arith))))
+          inr (i, omega arith, rw e (inside (spans i) (spans i .low) (omega arith) (known .some i h (omega arith))))
       go (inr w) =
           let e : min end (spans i .low) ≡ end = omega arith in
           ⊎-elim (λ z. inl (e ∙ z)) (λ z. inr (z .0, omega (arith, z .1), rw e (z .2))) (f .closed)
@@ -168,7 +163,7 @@ module _ (spans : ℕ → Span) (at : ℕ) (known : Settled spans) where
           → (Free (suc i) (min end (spans i .low)) → Reached (rangeFrom spans at n (suc i) (min end (spans i .low))))
           → (Free (suc i) end → Reached (rangeFrom spans at n (suc i) end))
           → Reached (rangeFrom spans at (suc n) i end)
-      go (inl x) y a b = rw (lt-ltb at (spans i .low) x) (a (later-free i end x f))
+      go (inl x) y a b = rw (lt-ltb at (spans i .low) x) (a (later-free i end (omega arith) x f))
       go (inr x) (inl y) a b = rw (le-ltb at (spans i .low) x, lt-ltb at (spans i .high) y) (owner-run i end (omega arith) x y f)
       go (inr x) (inr y) a b = rw (le-ltb at (spans i .low) x, le-ltb at (spans i .high) y) (b (past-free i end y f))
 
@@ -176,3 +171,81 @@ module _ (spans : ℕ → Span) (at : ℕ) (known : Settled spans) where
   range-run h =
       run-from 16 0 top refl
       (record { ahead = h; bound = omega arith; free = λ k b u x y. absurd (omega arith); closed = inl refl })
+
+-- ---- the ranges one after another: those found, in the array's first places, and those left, which start at the next byte
+
+module _ (spans : ℕ → Span) (known : Settled spans) where
+  all-lawful : Short (lowestOwner spans) 17 0 (painted spans 16) 33
+  all-lawful = painted-lawful spans (known .below) 16 (omega arith)
+
+pub record Swept (spans : ℕ → Span) (ranges : List Range) (count at : ℕ) : Type 0 where
+  pub done : List Range
+  pub left : List Range
+  pub before : ℕ
+  pub whole : painted spans 16 ≡ done ++ left
+  pub counted : length done ≡ count
+  pub filled : ranges ≡ done ++ replicate (33 - count) padding
+  pub lawful : Lawful (lowestOwner spans) before at left
+
+module _ (spans : ℕ → Span) (known : Settled spans) where
+  pub swept-start : Swept spans (replicate 33 padding) 0 0
+  swept-start = record {
+    done = [];
+    left = painted spans 16;
+    before = 17;
+    whole = refl;
+    counted = refl;
+    filled = refl;
+    lawful = all-lawful spans known .lawful;
+  }
+
+  module _ (ranges : List Range) (count at : ℕ) where
+    bound : (s : Swept spans ranges count at) → count + length (s .left) ≤ 33
+    bound s =
+        omega (arith, all-lawful spans known .short, ap length (s .whole), length-append (s .done) (s .left), s .counted)
+
+    -- what is left where the next byte is in memory: there is room for it
+    pub swept-room : Swept spans ranges count at → at < top → count < 33
+    swept-room s h = go (s .left) (s .lawful) (bound s)
+      where
+        go : (left : List Range) → Lawful (lowestOwner spans) (s .before) at left → count + length left ≤ 33 → count < 33
+        go [] l b = absurd (omega (arith, l))
+        go (r ∷ rs) l b = omega arith
+
+    pub swept-next : (r : Range) → Swept spans ranges count at → at < top → r ≡ rangeFrom spans at 16 0 top
+        → Swept spans (set ranges count r) (count + 1) (r .last + 1)
+    swept-next r s h e = go (s .left) (s .lawful) (s .whole) (bound s)
+      where
+        run : Reached spans at known r
+        run = subst (Reached spans at known) (sym e) (range-run spans at known h)
+
+        go : (left : List Range) → Lawful (lowestOwner spans) (s .before) at left → painted spans 16 ≡ s .done ++ left → count + length left ≤ 33
+            → Swept spans (set ranges count r) (count + 1) (r .last + 1)
+        go [] l w b = absurd (omega (arith, l))
+        go (t ∷ ts) l w b =
+            let same : t ≡ r = same-run (lowestOwner spans) t r (head-run (lowestOwner spans) (s .before) at t ts l) (run .1) (l .0 .starts ∙ sym (run .0)) in
+            let room : 33 - count ≡ suc (33 - (count + 1)) = omega arith in
+            record {
+              done = s .done ++ (r ∷ []);
+              left = ts;
+              before = r .owner;
+              whole = w ∙ ap (λ (x : Range). s .done ++ (x ∷ ts)) same ∙ sym (append-snoc (s .done) r ts);
+              counted = length-append (s .done) (r ∷ []) ∙ omega (arith, s .counted);
+              filled =
+                  rw (s .filled, room)
+                  (set-at (s .done) padding (replicate (33 - (count + 1)) padding) r count (s .counted)
+                  ∙ sym (append-snoc (s .done) r (replicate (33 - (count + 1)) padding)));
+              lawful = rw add-one (subst (λ (x : Range). Lawful (lowestOwner spans) (x .owner) (suc (x .last)) ts) same (l .1));
+            }
+
+    pub swept-end : Swept spans ranges count at → top ≤ at → record { count = count; ranges = ranges } ≡ mapOf (painted spans 16)
+    swept-end s h = go (s .left) (s .lawful) (s .whole)
+      where
+        go : (left : List Range) → Lawful (lowestOwner spans) (s .before) at left → painted spans 16 ≡ s .done ++ left
+            → record { count = count; ranges = ranges } ≡ mapOf (painted spans 16)
+        go [] l w =
+            let c : count ≡ length (s .done) = sym (s .counted) in
+            let f : ranges ≡ s .done ++ replicate (33 - length (s .done)) padding = rw (s .counted) (s .filled) in
+            let m : record { count = count; ranges = ranges } ≡ mapOf (s .done) = λ j. record { count = c j; ranges = f j } in
+            m ∙ ap mapOf (sym (w ∙ append-nil (s .done)))
+        go (t ∷ ts) l w = absurd (omega (arith, l .0 .some, from-bound (lowestOwner spans) (t .owner) (suc (t .last)) ts (l .1)))

@@ -3,7 +3,8 @@ ghost use mathlib.Core.Path.{_≡_};
 ghost use Prim.Native.Nat.{min};
 ghost use Rattle.pmp.specs.Entry.{top};
 ghost use Rattle.map.specs.Lookup.{holdsByte, findRange, rangesIn};
-ghost use Rattle.map.specs.Sweep.{settled, spansIn, rangeFrom};
+ghost use Rattle.map.specs.Ranges.{painted, mapOf};
+ghost use Rattle.map.specs.Sweep.{settled, Settled, spansIn, rangeFrom};
 
 // The bytes from `first` to `last`, both included. The owner is an entry, 0 to 15, or 16 for none; any number can be given.
 pub struct Range {
@@ -71,6 +72,31 @@ fn range_from(lows: &[u64; 16], highs: &[u64; 16], at: u64) -> Range
         first: at,
         last: end - 1,
         owner: 16,
+    }
+}
+
+// The map of sixteen entries, range by range from the lowest byte up. Two neighbours never have one owner, since each range ends where the owner
+// changes; and no place past the 33rd is written, since there are no more ranges.
+fn sweep(lows: &[u64; 16], highs: &[u64; 16]) -> Map
+    requires { ⌜ Settled (spansIn (now lows) (now highs)) ⌝ }
+    ensures { λ r. ⌜ r ≡ mapOf (painted (spansIn (now (lows .entry)) (now (highs .entry))) 16) ⌝ }
+{
+    let mut ranges = [Range {
+        first: 0,
+        last: 0,
+        owner: 16,
+    }; 33];
+    let mut count: usize = 0;
+    let mut at = 0;
+    while at < TOP {
+        let range = range_from(lows, highs, at);
+        ranges[count] = range;
+        count += 1;
+        at = range.last + 1;
+    }
+    Map {
+        count: count as u64,
+        ranges,
     }
 }
 
