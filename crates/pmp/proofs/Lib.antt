@@ -1,4 +1,5 @@
 -- Laws of the definitions, which the functions' proofs and other crates cite.
 pub mod SearchLaws
+pub mod EntryLaws
 pub mod RuleLaws
 pub mod Owner

@@ -1,0 +1,104 @@
+-- Laws of the bytes that an entry matches. Assumes nothing.
+use mathlib.Core.Path.{_≡_, refl, ap, sym, _∙_}
+use mathlib.Core.Bool.{cond}
+use mathlib.Core.List.{List}
+use Prim.Native.Nat.{ℕ, zero, suc, _+_, _-_, _*_, _/_, _%_, _^_, _≤_, _<_, min}
+use native.Mathlib.Nat.{pow-suc}
+use native.Mathlib.Omega.{arith}
+use lib.Count.{trailingZeros, under}
+use lib.Dec.{eqb}
+use lib.ListN.{getD}
+use lib.Pow.{pow-add, pow-lt, pow-mono, pow-pos}
+use Rattle.pmp.specs.declared.Span.{Span}
+use Rattle.pmp.specs.Entry.{top, trailingOnes, napot, spanOf, addressBefore}
+
+-- two spans with equal ends are equal
+pub span-same : {a b c d : ℕ} → a ≡ c → b ≡ d → _≡_ {A = Span} (record { low = a; high = b }) (record { low = c; high = d })
+span-same p q = λ i. record { low = p i; high = q i }
+
+-- ---- the ones at the low end of a word
+
+complement-digit : (d t u : ℕ) → d < 2 → t ≡ u → under (1 - d) t ≡ cond (eqb d 1) (suc u) 0
+complement-digit zero t u h e = refl
+complement-digit (suc zero) t u h e = ap suc e
+complement-digit (suc (suc d)) t u h e = absurd (omega arith)
+
+-- they are the zeros at the low end of its complement
+pub ones-zeros : (n word : ℕ) → word < 2 ^ n → trailingZeros n ((2 ^ n - 1) - word) ≡ trailingOnes n word
+unfolding trailingZeros trailingOnes
+ones-zeros zero word h = refl
+ones-zeros (suc n) word h =
+    let p : 2 ^ suc n ≡ 2 ^ n * 2 = pow-suc 2 n in
+    let digit : ((2 ^ suc n - 1) - word) % 2 ≡ 1 - word % 2 = omega arith in
+    let half : ((2 ^ suc n - 1) - word) / 2 ≡ (2 ^ n - 1) - word / 2 = omega arith in
+    rw (digit, half) (complement-digit (word % 2) _ _ (omega arith) (ones-zeros n (word / 2) (omega arith)))
+
+ones-room-step : (d word t : ℕ) → word % 2 ≡ d → 2 ^ t ≤ word / 2 + 1 → 2 ^ cond (eqb d 1) (suc t) 0 ≤ word + 1
+ones-room-step zero word t e h = omega arith
+ones-room-step (suc zero) word t e h = omega (arith, pow-suc 2 t)
+ones-room-step (suc (suc d)) word t e h = absurd (omega arith)
+
+-- a word with t trailing ones is at least 2^t - 1
+pub ones-room : (n word : ℕ) → 2 ^ trailingOnes n word ≤ word + 1
+unfolding trailingOnes
+ones-room zero word = omega arith
+ones-room (suc n) word = ones-room-step (word % 2) word (trailingOnes n (word / 2)) refl (ones-room n (word / 2))
+
+-- ---- NAPOT, as a program computes it: q is the machine's 2^t and l the first byte
+
+pub power-fits : (t : ℕ) → t < 64 → 1 * 2 ^ t % 2 ^ 64 ≡ 2 ^ t
+power-fits t h = let fits : 2 ^ t < 2 ^ 64 = pow-lt h in omega arith
+
+pub power-mono : (s t : ℕ) → s ≤ t → 2 ^ s ≤ 2 ^ t
+power-mono s t h = pow-mono h
+
+pub power-room : (addr t : ℕ) → t ≡ trailingOnes 64 addr → 2 ^ t ≤ addr + 1
+power-room addr t e = rw e (ones-room 64 addr)
+
+module _ (addr p q l : ℕ) (same : q ≡ p) (pos : 0 < p) (room : p ≤ addr + 1) (low : l ≡ min (4 * (addr - (q - 1))) top) where
+  first-byte : l ≡ min (4 * (addr - (p - 1))) top
+  first-byte = omega arith
+
+  end-inside : l + q * 8 < top → l + q * 8 ≡ min (4 * (addr - (p - 1)) + p * 8) top
+  end-inside h = omega arith
+
+  end-cut : top ≤ l + q * 8 → top ≡ min (4 * (addr - (p - 1)) + p * 8) top
+  end-cut h = omega arith
+
+  end-large : 2 ^ 53 ≤ p → top ≡ min (4 * (addr - (p - 1)) + p * 8) top
+  end-large h = omega arith
+
+module _ (addr t q l : ℕ) (same : q ≡ 2 ^ t) (room : 2 ^ t ≤ addr + 1) (low : l ≡ min (4 * (addr - (q - 1))) top) where
+  pub napot-inside : l + q * 8 < top → record { low = l; high = l + q * 8 } ≡ napot addr t
+  napot-inside h =
+      rw (pow-add 2 t 3) (span-same (first-byte addr (2 ^ t) q l same (pow-pos t) room low) (end-inside addr (2 ^ t) q l same (pow-pos t) room low h))
+
+  pub napot-cut : top ≤ l + q * 8 → record { low = l; high = top } ≡ napot addr t
+  napot-cut h =
+      rw (pow-add 2 t 3) (span-same (first-byte addr (2 ^ t) q l same (pow-pos t) room low) (end-cut addr (2 ^ t) q l same (pow-pos t) room low h))
+
+  pub napot-large : 53 ≤ t → record { low = l; high = top } ≡ napot addr t
+  napot-large h =
+      rw (pow-add 2 t 3)
+      (span-same (first-byte addr (2 ^ t) q l same (pow-pos t) room low)
+      (end-large addr (2 ^ t) q l same (pow-pos t) room low (power-mono 53 t h)))
+
+-- all ones: the whole of memory
+pub napot-whole : (addr t : ℕ) → 64 ≤ t → addr < 2 ^ 64 → record { low = 0; high = top } ≡ napot addr t
+napot-whole addr t h fits =
+    let large : 2 ^ 64 ≤ 2 ^ t = power-mono 64 t h in
+    rw (pow-add 2 t 3) (span-same (omega arith) (omega arith))
+
+-- ---- the A field and the register before
+
+-- of the four values of the field the last is left
+pub field-three : (a : ℕ) → (a ≡ 0 → ⊥) → (a ≡ 1 → ⊥) → (a ≡ 2 → ⊥) → a < 4 → a ≡ 3
+field-three a off tor na4 h = omega arith
+
+pub before-first : (addrs : List ℕ) (i : ℕ) → i ≡ 0 → 0 ≡ addressBefore addrs i
+before-first addrs zero e = refl
+before-first addrs (suc i) e = absurd (omega arith)
+
+pub before-next : (addrs : List ℕ) (i : ℕ) → (i ≡ 0 → ⊥) → getD addrs (i - 1) 0 ≡ addressBefore addrs i
+before-next addrs zero h = absurd (h refl)
+before-next addrs (suc i) h = let e : suc i - 1 ≡ i = omega arith in rw e
