@@ -172,6 +172,12 @@ module _ (spans : ℕ → Span) (at : ℕ) (known : Settled spans) where
       run-from 16 0 top refl
       (record { ahead = h; bound = omega arith; free = λ k b u x y. absurd (omega arith); closed = inl refl })
 
+  -- it holds the byte and lies in memory
+  pub range-bounds : (r : Range) → at < top → r ≡ rangeFrom spans at 16 0 top → (at ≤ r .last) × (r .last < top)
+  range-bounds r h e =
+      let t = range-run h in
+      subst (λ (x : Range). (at ≤ x .last) × (x .last < top)) (sym e) (omega (arith, t .0, t .1 .some), t .1 .below)
+
 -- ---- the ranges one after another: those found, in the array's first places, and those left, which start at the next byte
 
 module _ (spans : ℕ → Span) (known : Settled spans) where
