@@ -8,19 +8,20 @@ use native.Mathlib.Omega.{arith}
 use native.Mathlib.Numerals.{add-one}
 use lib.Dec.{leb, ltb}
 use lib.ListN.{length, getD, set, replicate, length-append}
-use lib.Seq.{append-snoc, set-at}
+use lib.Seq.{append-snoc, set-at, getD-set-same, getD-set-other}
 use borrow.Author.Tests.{lt-ltb, le-ltb, le-leb, lt-leb}
 use Rattle.pmp.specs.declared.Span.{Span}
 use Rattle.pmp.specs.Search.{lowest}
-use Rattle.pmp.specs.Entry.{top, entrySpan, contains, matches}
+use Rattle.pmp.specs.Entry.{top, span, entrySpan, contains}
 use Rattle.pmp.specs.Rule.{ownerOf}
 use Rattle.pmp.proofs.SearchLaws.{contradiction, lowest-fails, lowest-passes, lowest-unique, lowest-same}
 use Rattle.map.specs.declared.Range.{Range}
 use Rattle.map.specs.declared.Map.{Map}
-use Rattle.map.specs.Ranges.{range, painted, padding, mapOf}
-use Rattle.map.specs.Sweep.{Settled, rangeFrom}
+use Rattle.map.specs.Ranges.{range, painted, rangesOf, padding, mapOf, compiled}
+use Rattle.map.specs.Sweep.{settled, Settled, spansIn, rangeFrom}
 use Rattle.map.proofs.Lawful.{less, Lawful, Run, head-run, same-run, from-bound}
-use Rattle.map.proofs.Painting.{Short, painted-lawful}
+use Rattle.map.proofs.Painting.{Short, painted-lawful, painted-same}
+use Rattle.map.proofs.MapLaws.{span-bound}
 
 -- ---- a loop over the entries: i is the next one
 
@@ -255,3 +256,47 @@ module _ (spans : ℕ → Span) (known : Settled spans) where
             let m : record { count = count; ranges = ranges } ≡ mapOf (s .done) = λ j. record { count = c j; ranges = f j } in
             m ∙ ap mapOf (sym (w ∙ append-nil (s .done)))
         go (t ∷ ts) l w = absurd (omega (arith, l .0 .some, from-bound (lowestOwner spans) (t .owner) (suc (t .last)) ts (l .1)))
+
+-- ---- the arrays of the entries' first bytes and ends
+
+module _ (s t : Span) (e : t ≡ settled s) where
+  settled-cases : (t ≡ s × s .low < s .high) ⊎ (t ≡ span 0 0)
+  settled-cases = go (less (s .low) (s .high))
+    where
+      go : (s .low < s .high) ⊎ (s .high ≤ s .low) → (t ≡ s × s .low < s .high) ⊎ (t ≡ span 0 0)
+      go (inl x) = inl (rw (lt-ltb (s .low) (s .high) x) at e, x)
+      go (inr x) = inr (rw (le-ltb (s .low) (s .high) x) at e)
+
+  settled-some : 0 < t .low → t .low < t .high
+  settled-some h =
+      ⊎-elim (λ w. rw (w .0) (w .1)) (λ w. let z : t .low ≡ 0 = ap (λ (x : Span). x .low) w in absurd (omega arith)) settled-cases
+
+  settled-below : s .high ≤ top → t .high ≤ top
+  settled-below h = ⊎-elim (λ w. rw (w .0) h) (λ w. rw w (omega arith)) settled-cases
+
+-- they hold the bytes of the entries below i
+abbrev pub Filled : List ℕ → List ℕ → List ℕ → List ℕ → ℕ → Type 0
+Filled cfgs addrs lows highs i = (k : ℕ) → k < i → spansIn lows highs k ≡ settled (entrySpan cfgs addrs k)
+
+module _ (cfgs addrs lows highs : List ℕ) where
+  pub filled-next : (i : ℕ) (s t : Span) → length lows ≡ 16 → length highs ≡ 16 → i < 16 → Filled cfgs addrs lows highs i
+      → s ≡ entrySpan cfgs addrs i → t ≡ settled s → Filled cfgs addrs (set lows i (t .low)) (set highs i (t .high)) (i + 1)
+  filled-next i s t m n h f e d k l = go (less k i)
+    where
+      go : (k < i) ⊎ (i ≤ k) → spansIn (set lows i (t .low)) (set highs i (t .high)) k ≡ settled (entrySpan cfgs addrs k)
+      go (inl x) =
+          let other : k ≡ i → ⊥ = λ q. omega arith in
+          rw (getD-set-other lows i k (t .low) 0 other, getD-set-other highs i k (t .high) 0 other) (f k x)
+      go (inr x) =
+          let q : k ≡ i = omega arith in
+          rw (q, getD-set-same lows i (t .low) 0 (omega arith), getD-set-same highs i (t .high) 0 (omega arith)) (d ∙ ap settled e)
+
+  pub filled-settled : Filled cfgs addrs lows highs 16 → Settled (spansIn lows highs)
+  filled-settled f = record {
+    some = λ k h l. settled-some (entrySpan cfgs addrs k) (spansIn lows highs k) (f k h) l;
+    below = λ k h. settled-below (entrySpan cfgs addrs k) (spansIn lows highs k) (f k h) (span-bound _ _ _);
+  }
+
+  pub filled-compiled : Filled cfgs addrs lows highs 16 → mapOf (painted (spansIn lows highs) 16) ≡ compiled cfgs addrs
+  unfolding compiled rangesOf
+  filled-compiled f = ap mapOf (sym (painted-same (entrySpan cfgs addrs) (spansIn lows highs) f 16 (omega arith)))

@@ -1,9 +1,11 @@
 // The protection map: at most 33 ranges of bytes, each with the lowest entry that matches its bytes, and access queries on it.
 ghost use mathlib.Core.Path.{_≡_};
-ghost use Prim.Native.Nat.{min};
+ghost use Prim.Native.Nat.{_≤_, _<_, min};
 ghost use Rattle.pmp.specs.Entry.{top};
 ghost use Rattle.map.specs.Lookup.{holdsByte, findRange, rangesIn};
-ghost use Rattle.map.specs.Ranges.{painted, mapOf};
+ghost use Rattle.map.specs.declared.Found.the-variants.{At};
+ghost use Rattle.map.specs.Ranges.{painted, mapOf, compiled};
+ghost use Rattle.map.specs.Query.{rangeDecides, queried};
 ghost use Rattle.map.specs.Sweep.{settled, Settled, spansIn, rangeFrom};
 
 // The bytes from `first` to `last`, both included. The owner is an entry, 0 to 15, or 16 for none; any number can be given.
@@ -100,6 +102,25 @@ fn sweep(lows: &[u64; 16], highs: &[u64; 16]) -> Map
     }
 }
 
+// The map of the sixteen entries.
+pub fn compile(cfgs: [u8; 16], addrs: [u64; 16]) -> Map
+    ensures { λ r. ⌜ r ≡ compiled cfgs addrs ⌝ }
+{
+    let mut lows = [0u64; 16];
+    let mut highs = [0u64; 16];
+    let mut before = 0;
+    let mut entry: usize = 0;
+    while entry < 16 {
+        let addr = addrs[entry];
+        let span = settle(pmp::entry_span(cfgs[entry], addr, before));
+        lows[entry] = span.low;
+        highs[entry] = span.high;
+        before = addr;
+        entry += 1;
+    }
+    sweep(&lows, &highs)
+}
+
 // The number of ranges by which a map is read.
 fn count_read(count: u64) -> usize
     ensures { λ r. ⌜ r ≡ min count 33 ⌝ }
@@ -127,4 +148,49 @@ pub fn find(map: Map, byte: u64) -> Found
         k += 1;
     }
     Found::Nothing
+}
+
+// What the range that holds an access's first byte decides.
+fn range_decides(
+    cfgs: [u8; 16],
+    mode: pmp::Mode,
+    access: pmp::Access,
+    address: u64,
+    size: u64,
+    range: Range,
+) -> pmp::Decision
+    requires { ⌜ (0 < size) × (range .first ≤ address) × (address ≤ range .last) ⌝ }
+    ensures { λ r. ⌜ r ≡ rangeDecides cfgs mode access address size (At range) ⌝ }
+{
+    if 16 < range.owner {
+        return pmp::Decision::Refused(7);
+    }
+    if range.last - address < size - 1 {
+        pmp::Decision::Fault(pmp::fault_cause(access))
+    } else {
+        pmp::owner_decides(cfgs, mode, access, range.owner)
+    }
+}
+
+// An access query: the map's range that holds the first byte decides, by the configuration bytes and with no look at an address register.
+pub fn query(
+    cfgs: [u8; 16],
+    map: Map,
+    mode: pmp::Mode,
+    access: pmp::Access,
+    address: u64,
+    size: u64,
+) -> pmp::Decision
+    ensures { λ r. ⌜ r ≡ queried cfgs map mode access address size ⌝ }
+{
+    if !pmp::is_size(size) {
+        return pmp::Decision::Refused(1);
+    }
+    if TOP - size < address {
+        return pmp::Decision::Fault(pmp::fault_cause(access));
+    }
+    match find(map, address) {
+        Found::At(range) => range_decides(cfgs, mode, access, address, size, range),
+        Found::Nothing => pmp::Decision::Refused(7),
+    }
 }

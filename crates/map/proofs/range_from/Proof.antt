@@ -50,7 +50,7 @@ loop-again c =
       omega arith,
       omega (arith, c .smaller .ensures),
       rw (c .smaller .ensures)
-      (l .inv .2 ∙ from-later (spansIn (a .lows .now) (a .highs .now)) (a .at) (l .entry) (l .end) (c .before .before .before .loop-test .taken) (c .before .if1 .taken)),
+          (l .inv .2 ∙ from-later (spansIn (a .lows .now) (a .highs .now)) (a .at) (l .entry) (l .end) (c .before .before .before .loop-test .taken) (c .before .if1 .taken)),
     )
 
 -- src/lib.rt:59:24
