@@ -5,3 +5,4 @@ pub mod MapLaws
 pub mod Edges
 pub mod LookupLaws
 pub mod QueryLaws
+pub mod SweepLaws

@@ -1,12 +1,12 @@
 -- The range that holds a byte: what is found holds it, how a loop finds it, and where it is found on a lawful list. Assumes nothing.
 use Prim.Native.Nat.{ℕ, suc, _+_, _≤_, _<_}
-use mathlib.Core.Path.{_≡_, refl, subst}
+use mathlib.Core.Path.{_≡_, refl, sym, subst, _∙_}
 use mathlib.Core.Bool.{cond}
-use mathlib.Core.List.{List, [], _∷_}
+use mathlib.Core.List.{List, [], _∷_, map}
 use mathlib.Core.Logic.{_⊎_, inl, inr}
 use native.Mathlib.Omega.{arith}
 use native.Mathlib.Numerals.{add-one}
-use lib.ListN.{length, getD, take, drop, drop-of-length-le}
+use lib.ListN.{length, getD, take, drop, drop-of-length-le, length-map}
 use lib.Seq.{drop-cons, getD-take, length-take-le}
 use borrow.Author.Tests.{le-leb, lt-leb}
 use Rattle.pmp.specs.Entry.{top}
@@ -39,6 +39,10 @@ find-step n k rs d byte h l =
 
 pub find-end : (n : ℕ) (rs : List Range) (byte : ℕ) → n ≤ length rs → findRange (drop n (take n rs)) byte ≡ Nothing
 find-end n rs byte l = rw (drop-of-length-le (take n rs) {i = n} (omega (arith, length-take-le n rs l)))
+
+-- the length of a field that is an array of structs, which a parameter's relation states of the elements' tuples
+pub unmapped : (X Y : Type 0) (f : X → Y) (l : List X) (n : ℕ) → length (map f l) ≡ n → length l ≡ n
+unmapped X Y f l n p = sym (length-map l f) ∙ p
 
 -- the byte's range, and what is known of it
 pub record Hit (owner : ℕ → ℕ) (rs : List Range) (byte : ℕ) : Type 0 where

@@ -30,7 +30,7 @@ read-back-list rs h =
 module _ (cfgs addrs : List ℕ) where
   ranges-lawful : Short (ownerOf cfgs addrs) 17 0 (rangesOf cfgs addrs) 33
   unfolding rangesOf ownerOf
-  ranges-lawful = painted-lawful (entrySpan cfgs addrs) (λ k. span-bound _ _ _) 16 (omega arith)
+  ranges-lawful = painted-lawful (entrySpan cfgs addrs) (λ k _. span-bound _ _ _) 16 (omega arith)
 
   pub lawful-ranges : Lawful (ownerOf cfgs addrs) 17 0 (rangesOf cfgs addrs)
   lawful-ranges = ranges-lawful .lawful

@@ -15,7 +15,8 @@ use Rattle.pmp.specs.Rule.{none, ownerOf}
 use Rattle.pmp.proofs.SearchLaws.{lowest-within}
 use Rattle.map.specs.declared.Range.{Range}
 use Rattle.map.specs.Lookup.{holdsByte}
-use Rattle.map.specs.Ranges.{range, part, laid, overlay, paint, painted, rangesOf, Covers, Edge, StartAtEdges, InnerEdges}
+use Rattle.map.specs.Ranges.{range, part, laid, overlay, paint, painted}
+use Rattle.map.specs.Sweep.{settled}
 use Rattle.map.proofs.Lawful.{less, Head, Lawful}
 
 -- ---- the parts of a range over which bytes are laid
@@ -272,7 +273,7 @@ owner-step spans n b h =
     let d : suc (15 - n) ≡ 16 - n = omega arith in
     rw (e, d)
 
-module _ (spans : ℕ → Span) (below : (k : ℕ) → spans k .high ≤ top) where
+module _ (spans : ℕ → Span) (below : (k : ℕ) → k < 16 → spans k .high ≤ top) where
   -- the ranges by the last n entries are lawful, and at most 1 + 2 n
   pub painted-lawful : (n : ℕ) → n ≤ 16 → Short (ownerFrom spans n) 17 0 (painted spans n) (1 + 2 * n)
   unfolding painted lowest
@@ -281,9 +282,21 @@ module _ (spans : ℕ → Span) (below : (k : ℕ) → spans k .high ≤ top) wh
     short = omega arith;
   }
   painted-lawful (suc n) h =
-      let t = paint-lawful (spans (15 - n)) (15 - n) (ownerFrom spans n) (1 + 2 * n) (painted spans n) (below (15 - n)) (omega arith)
+      let t = paint-lawful (spans (15 - n)) (15 - n) (ownerFrom spans n) (1 + 2 * n) (painted spans n) (below (15 - n) (omega arith)) (omega arith)
       (λ b e. omega (arith, lowest-within (λ j. contains (spans j) b) n (16 - n) .0))
       (painted-lawful n (omega arith)) in
       same-owner (over (spans (15 - n)) (15 - n) (ownerFrom spans n)) (ownerFrom spans (suc n)) 17 0 (1 + 2 * suc n) (painted spans (suc n))
       (λ b. owner-step spans n b (omega arith))
       (record { lawful = t .lawful; short = omega (arith, t .short) })
+
+-- what is painted goes by the bytes of the sixteen entries that match some
+pub painted-same : (spans spans′ : ℕ → Span) → ((k : ℕ) → k < 16 → spans′ k ≡ settled (spans k)) → (n : ℕ) → n ≤ 16
+    → painted spans n ≡ painted spans′ n
+unfolding painted
+painted-same spans spans′ h zero l = refl
+painted-same spans spans′ h (suc n) l =
+    rw (h (15 - n) (omega arith), ← painted-same spans spans′ h n (omega arith)) (go (spans (15 - n)) (less (spans (15 - n) .low) (spans (15 - n) .high)))
+  where
+    go : (s : Span) → (s .low < s .high) ⊎ (s .high ≤ s .low) → paint s (15 - n) (painted spans n) ≡ paint (settled s) (15 - n) (painted spans n)
+    go s (inl x) = let e : settled s ≡ s = rw (lt-ltb (s .low) (s .high) x) in ap (λ (t : Span). paint t (15 - n) (painted spans n)) (sym e)
+    go s (inr x) = rw (le-ltb (s .low) (s .high) x)

@@ -1,18 +1,17 @@
 -- A query on the compiled map answers as the byte rule does, and it reads one range. Assumes nothing.
 use Prim.Native.Nat.{ℕ, suc, _+_, _-_, _≤_, _<_}
-use mathlib.Core.Path.{_≡_, refl, sym, ap, _∙_}
-use mathlib.Core.Bool.{Bool, true, false, cond}
+use mathlib.Core.Path.{_≡_, sym, _∙_}
+use mathlib.Core.Bool.{true, false}
 use mathlib.Core.List.{List}
 use mathlib.Core.Logic.{_⊎_, inl, inr}
 use native.Mathlib.Omega.{arith}
 use lib.Dec.{leb}
-use borrow.Author.Tests.{le-leb, lt-leb, leb-true}
+use borrow.Author.Tests.{le-leb, lt-leb}
 use Rattle.pmp.specs.declared.Mode.{Mode}
 use Rattle.pmp.specs.declared.Access.{Access}
-use Rattle.pmp.specs.declared.Decision.{Decision}
 use Rattle.pmp.specs.declared.Decision.the-variants.{Fault, Refused}
 use Rattle.pmp.specs.Number.{faultCause}
-use Rattle.pmp.specs.Search.{anyByte, everyByte}
+use Rattle.pmp.specs.Search.{everyByte}
 use Rattle.pmp.specs.Entry.{top}
 use Rattle.pmp.specs.Rule.{none, ownerOf, ownerDecides, isSize, byteRule}
 use Rattle.pmp.proofs.SearchLaws.{contradiction, not-true-false, every-all, every-passes}
@@ -61,30 +60,43 @@ module _ (cfgs : List ℕ) (mode : Mode) (access : Access) (address size : ℕ) 
   unfolding queried
   size-refused map e = rw e
 
+  -- an owner that is no entry and not none
+  pub owner-refused : (r : Range) → none < r .owner → rangeDecides cfgs mode access address size (At r) ≡ Refused 7
+  owner-refused r h = rw (lt-leb (r .owner) none h)
+
+  module _ (r : Range) (valid : r .owner ≤ none) (some : 0 < size) (from : r .first ≤ address) (to : address ≤ r .last) where
+    -- the range holds the first byte and not the last, or all
+    pub part-faults : r .last - address < size - 1 → rangeDecides cfgs mode access address size (At r) ≡ Fault (faultCause access)
+    part-faults h =
+        rw (le-leb (r .owner) none valid, holds-all r size address some from to, lt-leb (size - 1) (r .last - address) h)
+
+    pub whole-decides : size - 1 ≤ r .last - address → rangeDecides cfgs mode access address size (At r) ≡ ownerDecides cfgs mode access (r .owner)
+    whole-decides h =
+        rw (le-leb (r .owner) none valid, holds-all r size address some from to, le-leb (size - 1) (r .last - address) h)
+
   module _ (addrs : List ℕ) where
     -- the byte's range decides as the byte rule does
     hit-decides : 0 < size → address + size ≤ top → (h : Hit (ownerOf cfgs addrs) (rangesOf cfgs addrs) address)
         → rangeDecides cfgs mode access address size (At (h .it)) ≡ byteRule cfgs addrs mode access address size
-    hit-decides p q h =
-        let e : ownerOf cfgs addrs address ≡ h .it .owner = h .run .owned address (h .from) (h .to) in
-        rw (
-          le-leb (h .it .owner) none (omega (arith, owner-bound cfgs addrs address)),
-          holds-all (h .it) size address p (h .from) (h .to),
-        )
-        (go (less (h .it .last - address) (size - 1)))
+    hit-decides p q h = go (less (h .it .last - address) (size - 1))
       where
+        own : ownerOf cfgs addrs address ≡ h .it .owner
+        own = h .run .owned address (h .from) (h .to)
+
+        valid : h .it .owner ≤ none
+        valid = omega (arith, own, owner-bound cfgs addrs address)
+
         go : (h .it .last - address < size - 1) ⊎ (size - 1 ≤ h .it .last - address)
-            → cond (leb (size - 1) (h .it .last - address)) (ownerDecides cfgs mode access (h .it .owner)) (Fault (faultCause access))
-            ≡ byteRule cfgs addrs mode access address size
+            → rangeDecides cfgs mode access address size (At (h .it)) ≡ byteRule cfgs addrs mode access address size
         go (inl x) =
-            rw (lt-leb (size - 1) (h .it .last - address) x)
-            (sym (two-owners cfgs addrs address size mode access (suc (h .it .last)) address q
+            part-faults (h .it) valid p (h .from) (h .to) x
+            ∙ sym (two-owners cfgs addrs address size mode access (suc (h .it .last)) address q
             (omega (arith, h .to)) (omega (arith, h .to)) (omega arith) (omega arith)
-            (λ d. h .run .ends (omega (arith, h .to)) (d ∙ h .run .owned address (h .from) (h .to)))))
+            (λ d. h .run .ends (omega (arith, h .to)) (d ∙ own)))
         go (inr x) =
-            rw (le-leb (size - 1) (h .it .last - address) x)
-            (sym (one-owner cfgs addrs address size mode access (h .it .owner) p q
-            (λ b u v. h .run .owned b (omega (arith, h .from)) (omega (arith, h .to)))))
+            whole-decides (h .it) valid p (h .from) (h .to) x
+            ∙ sym (one-owner cfgs addrs address size mode access (h .it .owner) p q
+            (λ b u v. h .run .owned b (omega (arith, h .from)) (omega (arith, h .to))))
 
     -- the query on the compiled map is the byte rule
     pub query-rule : isSize size ≡ true → queried cfgs (compiled cfgs addrs) mode access address size ≡ byteRule cfgs addrs mode access address size

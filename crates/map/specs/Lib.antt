@@ -2,3 +2,4 @@
 pub mod Lookup
 pub mod Ranges
 pub mod Query
+pub mod Sweep

@@ -43,14 +43,6 @@ module _ (cfgs addrs : List ℕ) (mode : Mode) (access : Access) (address size :
   unfolding byteRule
   beyond-faults p h = rw (some-beyond top size address p h)
 
-  pub checked-size : isSize size ≡ true → checked cfgs addrs mode access address size ≡ byteRule cfgs addrs mode access address size
-  unfolding checked
-  checked-size e = rw e
-
-  pub checked-refused : isSize size ≡ false → checked cfgs addrs mode access address size ≡ Refused 1
-  unfolding checked
-  checked-refused e = rw e
-
 or-cases : (a b : Bool) → (a || b) ≡ true → (a ≡ true) ⊎ (b ≡ true)
 or-cases true b e = inl refl
 or-cases false b e = inr e
@@ -64,3 +56,21 @@ size-bounds n e =
     (λ x. let q : n ≡ 8 = eqb-true n 8 x in omega arith) (or-cases (eqb n 4) (eqb n 8) y))
     (or-cases (eqb n 2) (eqb n 4 || eqb n 8) y))
     (or-cases (eqb n 1) (eqb n 2 || (eqb n 4 || eqb n 8)) e)
+
+-- ---- the decision on an access of any size
+
+module _ (cfgs addrs : List ℕ) (mode : Mode) (access : Access) (address size : ℕ) where
+  pub checked-refused : isSize size ≡ false → checked cfgs addrs mode access address size ≡ Refused 1
+  unfolding checked
+  checked-refused e = rw e
+
+  pub checked-rule : isSize size ≡ true → checked cfgs addrs mode access address size ≡ byteRule cfgs addrs mode access address size
+  unfolding checked
+  checked-rule e = rw e
+
+  pub checked-beyond : isSize size ≡ true → top < address + size → checked cfgs addrs mode access address size ≡ Fault (faultCause access)
+  checked-beyond e h = checked-rule e ∙ beyond-faults cfgs addrs mode access address size (size-bounds size e .0) h
+
+  pub checked-inside : isSize size ≡ true → address + size ≤ top
+      → checked cfgs addrs mode access address size ≡ matchDecides cfgs addrs mode access address size (lowestMatch cfgs addrs address size)
+  checked-inside e h = checked-rule e ∙ inside-decides cfgs addrs mode access address size h

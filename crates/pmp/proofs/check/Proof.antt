@@ -1,13 +1,14 @@
 -- `pmp::check` meets its contract. Assumes nothing.
-use borrow.Author.Needs.{needs}
 use mathlib.Core.Path.{_≡_, sym, ap, _∙_}
 use mathlib.Core.Bool.{true}
-use Prim.Native.Nat.{_<_, _≤_}
+use Prim.Native.Nat.{_+_, _<_, _≤_}
 use native.Mathlib.Omega.{arith}
+use borrow.Author.Needs.{needs}
 use borrow.Author.Tests.{not-true, not-false}
 use Rattle.pmp.specs.declared.Decision.the-variants.{Fault}
+use Rattle.pmp.specs.Entry.{top}
 use Rattle.pmp.specs.Rule.{isSize}
-use Rattle.pmp.proofs.RuleLaws.{size-bounds, checked-size, checked-refused, inside-decides, beyond-faults}
+use Rattle.pmp.proofs.RuleLaws.{size-bounds, checked-refused, checked-beyond, checked-inside}
 use Rattle.pmp.proofs.check.Statement.{statement}
 use Rattle.pmp.proofs.check.Tie as tie
 
@@ -18,9 +19,7 @@ bounds : (c : tie.Else1) → (0 < c .before .before .args .size) × (c .before .
 bounds c = size-bounds (c .before .before .args .size) (sized c)
 
 returns : tie.Need-returns
-returns c =
-    let a = c .before .before .args in
-    sym (checked-refused (a .cfgs) (a .addrs) (a .mode) (a .access) (a .address) (a .size) (sym (c .before .is-size .ensures) ∙ not-true _ (c .if1 .taken)))
+returns c = sym (checked-refused _ _ _ _ _ _ (sym (c .before .is-size .ensures) ∙ not-true _ (c .if1 .taken)))
 
 sub-if2 : tie.Need-sub-if2
 sub-if2 c = omega (arith, bounds c)
@@ -30,19 +29,16 @@ match-decides-requires c κs = omega (arith, bounds (c .before))
 
 returns-2 : tie.Need-returns-2
 returns-2 c =
-    let a = c .before .before .before .before .args in
     let b = bounds (c .before .before) in
-    ap Fault (c .fault-cause .ensures)
-    ∙ sym (checked-size (a .cfgs) (a .addrs) (a .mode) (a .access) (a .address) (a .size) (sized (c .before .before))
-    ∙ beyond-faults (a .cfgs) (a .addrs) (a .mode) (a .access) (a .address) (a .size) (b .0) (omega arith))
+    ap Fault (c .fault-cause .ensures) ∙ sym (checked-beyond _ _ _ _ _ _ (sized (c .before .before)) (omega arith))
 
 returns-3 : tie.Need-returns-3
 returns-3 c =
     let a = c .before .before .before .before .args in
+    let s = sized (c .before .before) in
     let b = bounds (c .before .before) in
-    c .match-decides .ensures
-    ∙ sym (checked-size (a .cfgs) (a .addrs) (a .mode) (a .access) (a .address) (a .size) (sized (c .before .before))
-    ∙ inside-decides (a .cfgs) (a .addrs) (a .mode) (a .access) (a .address) (a .size) (omega arith))
+    let inside : a .address + a .size ≤ top = omega arith in
+    rw checked-inside (c .match-decides .ensures)
 
 pub check-spec : {M : Type 1} → statement M
 check-spec =

@@ -1,0 +1,112 @@
+use Prim.Native.Nat.{_<_, _≤_}
+use mathlib.Core.Path.{_≡_, sym, ap, _∙_}
+use mathlib.Core.Bool.{true}
+use native.Mathlib.Omega.{arith}
+use borrow.Author.Tests.{not-true, not-false}
+use Rattle.pmp.specs.declared.Decision.the-variants.{Fault}
+use Rattle.pmp.specs.Rule.{isSize}
+use Rattle.pmp.proofs.RuleLaws.{size-bounds}
+use Rattle.map.specs.declared.Found.the-variants.{At}
+use Rattle.map.specs.Lookup.{findRange, rangesIn}
+use Rattle.map.specs.Query.{rangeDecides}
+use Rattle.map.proofs.LookupLaws.{found-holds}
+use Rattle.map.proofs.QueryLaws.{size-refused, beyond-query, reads-range}
+use borrow.Author.Needs.{needs}
+use Rattle.map.proofs.query.Statement.{statement}
+use Rattle.map.proofs.query.Tie as tie
+use Rattle.map.proofs.query.Reads as reads
+use Rattle.map.proofs.query.Lts as lts
+use Rattle.map.proofs.find.Reads as find-reads
+use Rattle.map.proofs.range_decides.Reads as range-decides-reads
+use Rattle.pmp.proofs.fault_cause.Reads as fault-cause-reads
+use Rattle.pmp.proofs.is_size.Reads as is-size-reads
+
+sized : (c : tie.Else1) → isSize (c .before .before .args .size) ≡ true
+sized c = sym (c .before .is-size .ensures) ∙ not-false _ (c .if1 .left)
+
+bounds : (c : tie.Else1) → (0 < c .before .before .args .size) × (c .before .before .args .size ≤ 8)
+bounds c = size-bounds (c .before .before .args .size) (sized c)
+
+is-size-requires : tie.Need-is-size-requires
+is-size-requires c κs = search needs
+
+-- src/lib.rt:173:9
+returns : tie.Need-returns
+returns c =
+    let a = c .before .before .args in
+    sym (size-refused (a .cfgs) (a .mode) (a .access) (a .address) (a .size) (a .map) (sym (c .before .is-size .ensures) ∙ not-true _ (c .if1 .taken)))
+
+-- src/lib.rt:175:8
+sub-if2 : tie.Need-sub-if2
+sub-if2 c = omega (arith, bounds c)
+
+-- src/lib.rt:176:37
+fault-cause-requires : tie.Need-fault-cause-requires
+fault-cause-requires c κs = search needs
+
+-- src/lib.rt:176:9
+returns-2 : tie.Need-returns-2
+returns-2 c =
+    let e = c .before .before in
+    let a = e .before .before .args in
+    let b = bounds e in
+    ap Fault (c .fault-cause .ensures)
+    ∙ sym (beyond-query (a .cfgs) (a .mode) (a .access) (a .address) (a .size) (a .map) (sized e) (omega arith))
+
+-- src/lib.rt:178:11
+find-requires : tie.Need-find-requires
+find-requires c κs = search needs
+
+-- src/lib.rt:179:19
+enum-known-range : tie.Need-enum-known-range
+enum-known-range c = search needs
+
+-- src/lib.rt:179:29
+range-decides-requires : tie.Need-range-decides-requires
+range-decides-requires c κs =
+    let f = c .before .before .before in
+    let a = f .before .before .before .before .args in
+    let e : findRange (rangesIn (a .map)) (a .address) ≡ At (c .before .range .given .0 .0) = sym (f .find .ensures) ∙ c .before .range .given .1 in
+    let h = found-holds (rangesIn (a .map)) (a .address) (c .before .range .given .0 .0) e in
+    (bounds (f .before .before) .0, h .0, h .1)
+
+-- src/lib.rt:180:27
+enum-told : tie.Need-enum-told
+enum-told c = search needs
+
+-- src/lib.rt:169:1
+returns-3 : tie.Need-returns-3
+returns-3 c =
+    let r = c .before .before in
+    let f = r .before .before in
+    let e = f .before .before in
+    let a = e .before .before .args in
+    let b = bounds e in
+    c .range-decides .ensures
+    ∙ ap (rangeDecides (a .cfgs) (a .mode) (a .access) (a .address) (a .size)) (sym (r .range .given .1) ∙ f .find .ensures)
+    ∙ sym (reads-range (a .cfgs) (a .mode) (a .access) (a .address) (a .size) (a .map) (sized e) (omega arith))
+
+-- src/lib.rt:169:1
+returns-4 : tie.Need-returns-4
+returns-4 c =
+    let f = c .before .before in
+    let e = f .before .before in
+    let a = e .before .before .args in
+    let b = bounds e in
+    rw (reads-range (a .cfgs) (a .mode) (a .access) (a .address) (a .size) (a .map) (sized e) (omega arith), ← f .find .ensures, c .enum-told .given .1)
+
+pub query-spec : {M : Type 1} → statement M
+query-spec =
+    tie.close
+    (tie.spec
+    is-size-requires
+    returns
+    sub-if2
+    fault-cause-requires
+    returns-2
+    find-requires
+    enum-known-range
+    range-decides-requires
+    enum-told
+    returns-3
+    returns-4)
