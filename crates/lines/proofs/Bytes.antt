@@ -1,9 +1,13 @@
 -- The comparison of bytes.
-use Prim.Native.Nat.{ℕ}
-use mathlib.Core.Path.{_≡_, refl, sym}
+use Prim.Native.Nat.{ℕ, _+_, _≤_, _<_}
+use mathlib.Core.Path.{_≡_, refl, ap}
 use mathlib.Core.Bool.{Bool, true, false, _&&_}
 use mathlib.Core.List.{List, [], _∷_}
+use native.Mathlib.Omega.{arith}
+use native.Mathlib.Numerals.{add-one}
 use lib.Dec.{eqb}
+use lib.ListN.{length, getD, drop, drop-of-length-le}
+use lib.Seq.{drop-cons}
 use borrow.Author.Tests.{eqb-true, eq-eqb}
 use Rattle.lines.specs.Lines.{sameBytes}
 
@@ -23,11 +27,23 @@ same-eq (a ∷ s) (b ∷ t) h = go (eqb a b) refl h (same-eq s t)
     go true p q r = rw (eqb-true a b p, r q)
     go false p q r = cc
 
--- two lists that are equal exactly if r is true
-pub same-is : (s t : List ℕ) (r : Bool) → (r ≡ true → s ≡ t) → (s ≡ t → r ≡ true) → sameBytes s t ≡ r
-same-is s t true f g = rw (f refl) (same-true t)
-same-is s t false f g = go (sameBytes s t) refl
+-- ---- the loop
+
+pub same-lengths : (s t : List ℕ) → (length s ≡ length t → ⊥) → false ≡ sameBytes s t
+same-lengths s t h = go (sameBytes s t) refl
   where
-    go : (b : Bool) → sameBytes s t ≡ b → b ≡ false
-    go true p = sym (g (same-eq s t p))
+    go : (b : Bool) → sameBytes s t ≡ b → false ≡ b
+    go true p = absurd (h (ap length (same-eq s t p)))
     go false p = refl
+
+module _ (s t : List ℕ) (equal : length s ≡ length t) where
+  pub same-more : (r : Bool) (i : ℕ) → i < length s
+      → (r && sameBytes (drop i s) (drop i t)) ≡ ((r && eqb (getD s i 0) (getD t i 0)) && sameBytes (drop (i + 1) s) (drop (i + 1) t))
+  unfolding sameBytes
+  same-more true i h = rw (drop-cons s i 0 h, drop-cons t i 0 (omega arith), add-one i)
+  same-more false i h = refl
+
+  pub same-all : (r : Bool) (i : ℕ) → length s ≤ i → (r && sameBytes (drop i s) (drop i t)) ≡ r
+  unfolding sameBytes
+  same-all true i h = let k : length t ≤ i = omega arith in rw (drop-of-length-le s h, drop-of-length-le t k)
+  same-all false i h = refl

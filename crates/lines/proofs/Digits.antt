@@ -7,7 +7,7 @@ use native.Mathlib.Omega.{arith}
 use native.Mathlib.Nat.{add-zero, pow-le-pow-right}
 use lib.Dec.{leb, ltb}
 use borrow.Author.Tests.{leb-true, leb-false, le-leb, lt-leb}
-use lib.ListN.{length, getD, set}
+use lib.ListN.{getD, set}
 use lib.Pow.{pow-add}
 use lib.Seq.{sets}
 use Rattle.lines.specs.Lines.{hexDigit, hexDigits, digitValue, numberAt}

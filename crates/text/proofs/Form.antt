@@ -1,15 +1,13 @@
 -- 01's form: the texts compute with the words as variables, and what the program does with them follows.
 use Prim.Native.Nat.{ℕ, _≤_}
 use mathlib.Core.Path.{_≡_, refl, sym, ap, _∙_}
-use mathlib.Core.Bool.{Bool, true, false, cond}
-use mathlib.Core.List.{List, [], _∷_, _++_, map}
-use borrow.Author.Tests.{le-leb, lt-leb}
-use lib.Dec.{leb}
+use mathlib.Core.Bool.{Bool, cond}
+use mathlib.Core.List.{List, [], _++_, map}
+use borrow.Author.Tests.{le-leb}
 use lib.ListN.{length, take, drop, replicate}
 use lib.Seq.{sets, take-length}
-use Rattle.lines.specs.Lines.{bytesOf, hexDigits, lineOf, linesOf, numberAt, wordAt, placesOf, wordsOf, isText}
+use Rattle.lines.specs.Lines.{bytesOf, hexDigits, lineOf, linesOf, numberAt, wordAt, placesOf, wordsOf, sameBytes, isText}
 use Rattle.lines.specs.Places.{withWord, withWords}
-use Rattle.lines.proofs.Bytes.{same-is}
 use Rattle.lines.proofs.Back.{reread, elements}
 use Rattle.text.specs.Text.{keys, textOf, writtenTo, given, refused, readText}
 
@@ -43,9 +41,9 @@ text-copied ws b t x h e d =
     rw (le-leb 1027 (length b) h) (d ∙ rw (take-length t, n, e))
 
 -- the answer of the reader, where r tells whether the text is that of the words found in it
-pub text-judged : (t ws u : List ℕ) (r : Bool) → ws ≡ sets (replicate 41 0) 0 (map (wordAt t) (placesOf keys 0)) → u ≡ textOf ws
-    → (r ≡ true → t ≡ u) → (t ≡ u → r ≡ true) → cond r (given ws) refused ≡ readText t
+pub text-judged : (t ws u : List ℕ) (r : Bool) → ws ≡ sets (replicate 41 0) 0 (map (wordAt t) (placesOf keys 0)) → u ≡ textOf ws → r ≡ sameBytes t u
+    → cond r (given ws) refused ≡ readText t
 unfolding textOf readText isText wordsOf
-text-judged t ws u r e d f g =
+text-judged t ws u r e d f =
     let w : map (wordAt t) (placesOf keys 0) ≡ ws = sym (e ∙ words-full (wordAt t)) in
-    rw (w, ← d, same-is t u r f g)
+    rw (w, ← d, ← f)

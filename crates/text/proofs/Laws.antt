@@ -2,9 +2,9 @@
 use Prim.Native.Nat.{ℕ}
 use mathlib.Core.Path.{_≡_, refl, sym, ap, _∙_}
 use mathlib.Core.Bool.{Bool, true, false, cond}
-use mathlib.Core.List.{List, [], _∷_}
+use mathlib.Core.List.{List, _∷_}
 use native.Mathlib.Omega.{arith}
-use lib.ListN.{length, replicate}
+use lib.ListN.{replicate}
 use Rattle.lines.specs.Lines.{bytesOf, hexDigits, lineOf, linesOf, wordsOf, isText}
 use Rattle.lines.proofs.Back.{Words, text-only, words-found, words-back, is-text}
 use Rattle.text.specs.declared.Reading.{Reading}

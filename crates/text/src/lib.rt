@@ -124,7 +124,7 @@ pub fn read(text: &[u8]) -> Reading
     let mut words = [0u64; 41];
     lines::read_words(&PLACES, text, &mut words);
     let again = text_of(words);
-    if check::same(text, &again) {
+    if lines::same_bytes(text, &again) {
         Reading { ok: true, words }
     } else {
         Reading {

@@ -3,7 +3,7 @@ use Rattle.lines.specs.Lines.{wordAt}
 use lib.ListN.{length, drop, length-set}
 use lib.Seq.{sets}
 use mathlib.Core.List.{map}
-use Prim.Native.Nat.{_+_, _-_, _≤_}
+use Prim.Native.Nat.{_-_, _≤_}
 use mathlib.Core.Path.{_≡_, refl, sym, _∙_}
 use native.Mathlib.Omega.{arith}
 use borrow.Author.Needs.{needs}

@@ -1,5 +1,5 @@
 use Rattle.lines.proofs.Words.{word-cut, word-read}
-use Prim.Native.Nat.{_+_, _≤_}
+use Prim.Native.Nat.{_+_}
 use mathlib.Core.Path.{_∙_, sym}
 use borrow.Author.Tests.{leb-true}
 use lib.ListN.{length}

@@ -1,7 +1,7 @@
 use Rattle.lines.proofs.Words.{write-more, write-all}
 use Rattle.lines.specs.Places.{withWords}
 use lib.ListN.{length, drop}
-use Prim.Native.Nat.{_+_, _-_, _≤_}
+use Prim.Native.Nat.{_-_, _≤_}
 use mathlib.Core.Path.{_≡_, refl, sym, _∙_}
 use native.Mathlib.Omega.{arith}
 use borrow.Author.Needs.{needs}

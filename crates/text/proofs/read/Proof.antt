@@ -8,16 +8,16 @@ use Rattle.text.proofs.read.Statement.{statement}
 use Rattle.text.proofs.read.Tie as tie
 
 -- what is known once the text has been compared
-judged : (c : tie.After-same) →
-    cond (c .same .result) (given (c .before .before .before .before .read-words .last .1 .1 .0)) refused
+judged : (c : tie.After-same-bytes) →
+    cond (c .same-bytes .result) (given (c .before .before .before .before .read-words .last .1 .1 .0)) refused
     ≡ readText (c .before .before .before .before .before .before .before .before .args .text .now)
 unfolding bytesOf keys placesOf
 judged c =
-    let s = c .same in
+    let s = c .same-bytes in
     let t = c .before .before in
     let w = t .before .before in
     let a = w .before .before .before .before .args in
-    text-judged (a .text .now) (w .read-words .last .1 .1 .0) (t .text-of .result) (s .result) (w .read-words .ensures) (t .text-of .ensures) (s .ensures .0) (s .ensures .1)
+    text-judged (a .text .now) (w .read-words .last .1 .1 .0) (t .text-of .result) (s .result) (w .read-words .ensures) (t .text-of .ensures) (s .ensures)
 
 returns : tie.Need-returns
 returns c = rw (c .if1 .taken) at (judged (c .before))
