@@ -25,6 +25,7 @@ use Rattle.csr.specs.declared.Operation.{Operation}
 use Rattle.csr.specs.Permit.{illegal}
 use Rattle.csr.specs.Show.{shown}
 use Rattle.csr.specs.Store.{operation}
+use Rattle.csr.proofs.OperationKept as csr-laws
 use Rattle.trap.specs.declared.Outcome.{Outcome}
 use Rattle.trap.specs.Enter.{raised, illegalInstruction}
 use Rattle.trap.specs.Return.{nextPc}
@@ -100,7 +101,7 @@ module _ (h : Hart) (p : canHold h ≡ true) where
   unfolding canHold csrStep
   csr-holds op number operand =
       let s = operation (stateOf h) op number operand in
-      let q : registersHoldable (s .registers) ≡ true = ? in
+      let q : registersHoldable (s .registers) ≡ true = csr-laws.registers-kept (stateOf h) op number operand registers-held in
       either (ltb 4095 number) (refused h 2)
       (cond (illegal (h .registers) op number) (onRegisters h (illegalInstruction (h .registers))) (csrCompleted h (shown (stateOf h) number) s))
       p
@@ -109,7 +110,7 @@ module _ (h : Hart) (p : canHold h ≡ true) where
       (on-registers _ (illegal-instruction-holdable (h .registers) registers-held))
       (join (registersHoldable (withPc (s .registers) (nextPc (h .registers)))) (pmpHoldable (s .pmp))
       (pc-holdable (s .registers) q (nextPc (h .registers)) (next-aligned (h .registers .pc) (held (h .registers) registers-held .pc)))
-      ?))
+      (csr-laws.pmp-kept (stateOf h) op number operand pmp-kept)))
 
   decided-holds : (access : Access) (address : ℕ) (d : Decision) → GrantOrFault access d → Holds (accessDecided h address d)
   decided-holds access address d g =

@@ -29,7 +29,7 @@ returns c =
     let e : p .reset-pmp .result ≡ resetPmp = p .reset-pmp .ensures in
     λ j. record {
       hart = record { registers = p .before .reset-registers .ensures j; pmp = e j };
-      map = (c .compile .ensures ∙ ap mapFor e) j
+      map = (c .compile .ensures ∙ ap mapFor e) j;
     }
 
 pub reset-spec : {M : Type 1} → statement M

@@ -236,7 +236,9 @@ returns-11 c =
 returns-12 : tie.Need-returns-12
 returns-12 c =
     let a = c .before .before .before .before .before .args in
-    effect-arm (a .self) (a .map) (a .step) _ (c .before .before .step5 .given .1) refl _ (c .access-step .ensures ∙ access-arm (a .self) (a .map) _ _ _)
+    let g = c .before .before .step5 .given in
+    effect-arm (a .self) (a .map) (a .step) _ (g .1) refl _
+    (c .access-step .ensures ∙ access-arm (a .self) (a .map) (g .0 .0) (g .0 .1 .0) (g .0 .1 .1 .0))
 
 -- src/steps.rt:155:5
 returns-13 : tie.Need-returns-13
