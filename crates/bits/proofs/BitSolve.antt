@@ -12,6 +12,7 @@ use lib.Bits.{bitAnd, bitOr}
 use lib.Dec.{eqb, ltb}
 use lib.Pow.{pow-mono}
 use lib.ListN.{length, getD}
+use Rattle.bits.proofs.Conjunction.{both}
 use Rattle.bits.proofs.BitLaws.{bit, bit-and, bit-or, ext}
 
 pub data E : Type 0 where
@@ -75,10 +76,6 @@ abbrev pub envs : ℕ → (List ℕ → Bool) → Bool
 envs zero P = P []
 envs (suc n) P = envs n (λ β. P (0 ∷ β)) && envs n (λ β. P (1 ∷ β))
 
-both : (a b : Bool) → (a && b) ≡ true → (a ≡ true) × (b ≡ true)
-both true b p = (refl, p)
-both false b p = (p, cc)
-
 digit : (Q : ℕ → Type 0) → Q 0 → Q 1 → (b : ℕ) → b < 2 → Q b
 digit Q p q zero h = p
 digit Q p q (suc zero) h = q
@@ -113,7 +110,8 @@ abbrev pub smallG : G → Bool
 smallG (eq a b) = small a && small b
 smallG (imp a b g) = small a && (small b && smallG g)
 
-no-bit : (n k : ℕ) → n < 2 ^ 64 → 64 ≤ k → bit n k ≡ 0
+-- past its 64 places a word has no bit
+pub no-bit : (n k : ℕ) → n < 2 ^ 64 → 64 ≤ k → bit n k ≡ 0
 no-bit n k h l = rw (div-eq-of-lt (lt-of-lt-of-le h (pow-mono l)))
 
 sem-high : (e : E) (β : List ℕ) (k : ℕ) → small e ≡ true → 64 ≤ k → sem k β e ≡ sem 64 β e

@@ -1,2 +1,5 @@
+-- The laws that the proofs and the crates above cite.
+pub mod Conjunction
 pub mod BitLaws
 pub mod BitSolve
+pub mod Within

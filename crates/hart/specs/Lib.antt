@@ -1,0 +1,9 @@
+-- The definitions that the contracts cite.
+pub mod Effects
+pub mod Steps
+pub mod Queries
+pub mod Saved
+pub mod Decode
+pub mod Runs
+pub mod Faithful
+pub mod Worked

@@ -1,0 +1,16 @@
+-- 01, "Protection": the access query, which reads one range of a map.
+use Prim.Native.Nat.{ℕ}
+use mathlib.Core.Bool.{cond}
+use Rattle.pmp.specs.declared.Mode.{Mode}
+use Rattle.pmp.specs.declared.Access.{Access}
+use Rattle.pmp.specs.declared.Decision.{Decision}
+use Rattle.pmp.specs.declared.Decision.the-variants.{Refused}
+use Rattle.map.specs.declared.Map.{Map}
+use Rattle.map.specs.Query.{queried}
+use Rattle.hart.specs.declared.Hart.{Hart}
+use Rattle.hart.specs.Effects.{canHold}
+
+-- refusal 3 goes before 1 and 7; once it is judged no address register is looked at
+unfoldable pub queryAnswer : Hart → Map → Mode → Access → ℕ → ℕ → Decision
+queryAnswer h map mode access address size =
+    cond (canHold h) (queried (h .pmp .cfgs) map mode access address size) (Refused 3)

@@ -1,0 +1,72 @@
+-- The loops over the digits of one word.
+use Prim.Native.Nat.{ℕ, suc, _+_, _-_, _*_, _/_, _%_, _^_, _≤_, _<_}
+use mathlib.Core.Path.{_≡_, refl, sym, ap, _∙_}
+use mathlib.Core.Bool.{Bool, true, false, cond}
+use mathlib.Core.List.{List}
+use native.Mathlib.Omega.{arith}
+use native.Mathlib.Nat.{add-zero, pow-le-pow-right}
+use lib.Dec.{leb, ltb}
+use borrow.Author.Tests.{leb-true, leb-false, le-leb, lt-leb}
+use lib.ListN.{getD, set}
+use lib.Pow.{pow-add}
+use lib.Seq.{sets}
+use Rattle.lines.specs.Lines.{hexDigit, hexDigits, digitValue, numberAt}
+
+-- ---- writing
+
+pub digits-start : (t : List ℕ) (p w : ℕ) → sets t p (hexDigits 16 w) ≡ sets t (p + 0) (hexDigits 16 w)
+digits-start t p w = rw (add-zero p)
+
+pub digits-more : (t : List ℕ) (p w j d : ℕ) → j < 16 → d ≡ hexDigit (w / 2 ^ (60 - 4 * j) % 16)
+    → sets t (p + j) (hexDigits (16 - j) w) ≡ sets (set t (p + j) d) (p + (j + 1)) (hexDigits (16 - (j + 1)) w)
+unfolding hexDigits
+digits-more t p w j d h e =
+    let n : 16 - j ≡ suc (16 - (j + 1)) = omega arith in
+    let s : p + (j + 1) ≡ suc (p + j) = omega arith in
+    let k : 60 - 4 * j ≡ 4 * (16 - (j + 1)) = omega arith in
+    rw (n, s, e, k)
+
+pub digits-all : (t : List ℕ) (p w j : ℕ) → 16 ≤ j → sets t p (hexDigits (16 - j) w) ≡ t
+unfolding hexDigits
+digits-all t p w j h = let n : 16 - j ≡ 0 = omega arith in rw n
+
+-- ---- reading
+
+pub value-below : (b : ℕ) → digitValue b < 16
+value-below b = go (ltb b 58)
+  where
+    go : (t : Bool) → cond t (b % 16) ((b + 9) % 16) < 16
+    go true = omega arith
+    go false = omega arith
+
+-- j digits are a number below 16 to the power of j
+pub number-fits : (j w d : ℕ) → j < 16 → w < 2 ^ (4 * j) → d < 16 → (w * 16 + d < 2 ^ (4 * (j + 1))) × (w * 16 + d < 2 ^ 64)
+number-fits j w d hj hw hd =
+    let e : 4 * (j + 1) ≡ 4 * j + 4 = omega arith in
+    let s : 2 ^ (4 * (j + 1)) ≡ 2 ^ (4 * j) * 16 = ap (λ (k : ℕ). 2 ^ k) e ∙ pow-add 2 (4 * j) 4 in
+    let b : 2 ^ (4 * j + 4) ≤ 2 ^ 64 = pow-le-pow-right {n = 2} (omega arith) {i = 4 * j + 4} {j = 64} (omega arith) in
+    (omega arith, omega (arith, pow-add 2 (4 * j) 4))
+
+pub number-start : (t : List ℕ) (p : ℕ) → numberAt 16 0 t p ≡ numberAt 16 0 t (p + 0)
+number-start t p = rw (add-zero p)
+
+pub number-more : (t : List ℕ) (w p j : ℕ) → j < 16
+    → numberAt (16 - j) w t (p + j) ≡ numberAt (16 - (j + 1)) (w * 16 + digitValue (getD t (p + j) 0)) t (p + (j + 1))
+unfolding numberAt
+number-more t w p j h =
+    let e : 16 - j ≡ suc (16 - (j + 1)) = omega arith in
+    let s : p + (j + 1) ≡ p + j + 1 = omega arith in
+    rw (e, s)
+
+pub number-all : (t : List ℕ) (w p j : ℕ) → 16 ≤ j → numberAt (16 - j) w t p ≡ w
+unfolding numberAt
+number-all t w p j h = let e : 16 - j ≡ 0 = omega arith in rw e
+
+-- ---- the room for them
+
+pub room-from : (n p : ℕ) → 16 ≤ n → leb p (n - 16) ≡ leb (p + 16) n
+room-from n p h = go (leb p (n - 16)) refl
+  where
+    go : (b : Bool) → leb p (n - 16) ≡ b → b ≡ leb (p + 16) n
+    go true e = sym (le-leb (p + 16) n (omega (arith, leb-true p (n - 16) e)))
+    go false e = sym (lt-leb (p + 16) n (omega (arith, leb-false p (n - 16) e)))

@@ -1,0 +1,16 @@
+use Rattle.lines.proofs.Digits.{room-from}
+use Prim.Native.Nat.{_+_}
+use mathlib.Core.Path.{sym}
+use native.Mathlib.Omega.{arith}
+use borrow.Author.Tests.{lt-leb}
+use Rattle.lines.proofs.has_room.Statement.{statement}
+use Rattle.lines.proofs.has_room.Tie as tie
+
+returns : tie.Need-returns
+returns c = let a = c .before .args in sym (lt-leb (a .place + 16) (a .length) (omega arith))
+
+returns-2 : tie.Need-returns-2
+returns-2 c = let a = c .before .args in room-from (a .length) (a .place) (c .if1 .left)
+
+pub has-room-spec : {M : Type 1} → statement M
+has-room-spec = tie.close (tie.spec returns returns-2)

@@ -1,0 +1,69 @@
+-- 01, "Saved text": lines of a key, `=`, 16 lower-case hexadecimal digits and a line feed, for any list of keys. The words come in the keys' order.
+use Prim.Native.Nat.{ℕ, zero, suc, _+_, _*_, _/_, _%_, _^_}
+use Prim.Native.String.{String, [] as []ˢ, _∷_ as _∷ˢ_}
+use Prim.Native.Char.{code}
+use mathlib.Core.Bool.{Bool, true, false, cond, _&&_}
+use mathlib.Core.List.{List, [], _∷_, _++_, map}
+use lib.Dec.{leb, ltb, eqb}
+use lib.ListN.{length, getD}
+
+unfoldable pub bytesOf : String → List ℕ
+bytesOf []ˢ = []
+bytesOf (c ∷ˢ s) = code c ∷ bytesOf s
+
+-- ---- writing
+
+-- 0 to 9, then a to f
+abbrev pub hexDigit : ℕ → ℕ
+hexDigit d = cond (ltb d 10) (48 + d) (87 + d)
+
+-- the lowest n digits of a word, the highest first
+unfoldable pub hexDigits : ℕ → ℕ → List ℕ
+hexDigits zero w = []
+hexDigits (suc n) w = hexDigit (w / 2 ^ (4 * n) % 16) ∷ hexDigits n w
+
+unfoldable pub lineOf : String → ℕ → List ℕ
+lineOf k w = bytesOf k ++ 61 ∷ hexDigits 16 w ++ 10 ∷ []
+
+-- a line for each key, with the words from number i on
+unfoldable pub linesOf : List String → ℕ → List ℕ → List ℕ
+linesOf [] i ws = []
+linesOf (k ∷ ks) i ws = lineOf k (getD ws i 0) ++ linesOf ks (i + 1) ws
+
+-- ---- reading
+
+-- what a digit stands for; what it says of a byte that is no digit does not matter
+abbrev pub digitValue : ℕ → ℕ
+digitValue b = cond (ltb b 58) (b % 16) ((b + 9) % 16)
+
+-- the number of the n digits from place p on, after those that gave w
+unfoldable pub numberAt : ℕ → ℕ → List ℕ → ℕ → ℕ
+numberAt zero w t p = w
+numberAt (suc n) w t p = numberAt n (w * 16 + digitValue (getD t p 0)) t (p + 1)
+
+-- 16 bytes from place p on lie within a text of this length
+abbrev pub hasRoom : ℕ → ℕ → Bool
+hasRoom n p = leb (p + 16) n
+
+-- the word of the 16 digits from place p on, 0 where the text ends before
+unfoldable pub wordAt : List ℕ → ℕ → ℕ
+wordAt t p = cond (hasRoom (length t) p) (numberAt 16 0 t p) 0
+
+-- where the digits behind each key start, the first key being at place p
+unfoldable pub placesOf : List String → ℕ → List ℕ
+placesOf [] p = []
+placesOf (k ∷ ks) p = (p + length (bytesOf k) + 1) ∷ placesOf ks (p + length (bytesOf k) + 18)
+
+-- the words behind the keys
+unfoldable pub wordsOf : List String → List ℕ → List ℕ
+wordsOf ks t = map (wordAt t) (placesOf ks 0)
+
+unfoldable pub sameBytes : List ℕ → List ℕ → Bool
+sameBytes [] [] = true
+sameBytes [] (b ∷ t) = false
+sameBytes (a ∷ s) [] = false
+sameBytes (a ∷ s) (b ∷ t) = eqb a b && sameBytes s t
+
+-- a text in the form of the keys: it is the text of the words in it
+unfoldable pub isText : List String → List ℕ → Bool
+isText ks t = sameBytes t (linesOf ks 0 (wordsOf ks t))

@@ -1,0 +1,43 @@
+use Prim.Native.Nat.{_-_, _≤_}
+use mathlib.Core.Path.{_≡_, refl}
+use mathlib.Core.Bool.{_&&_}
+use native.Mathlib.Omega.{arith}
+use lib.ListN.{drop}
+use borrow.Author.Needs.{needs}
+use Rattle.registers.specs.Hold.{all, addressHoldable}
+use Rattle.registers.proofs.AllLaws.{all-next, all-end}
+use Rattle.registers.proofs.hold.addresses_can_hold.Statement.{statement}
+use Rattle.registers.proofs.hold.addresses_can_hold.Tie as tie
+
+abbrev Inv-loop : tie.InvT-loop
+Inv-loop addrs can₀ i₀ can i = (i ≤ 16) × ((can && all addressHoldable (drop i addrs)) ≡ all addressHoldable addrs)
+
+abbrev μ-loop : tie.MeasureT-loop
+μ-loop addrs can₀ i₀ can i = 16 - i
+
+loop-holds : tie.Need-loop-holds Inv-loop μ-loop
+loop-holds c = (omega arith, refl)
+
+loop-again : tie.Need-loop-again Inv-loop μ-loop
+loop-again c =
+    let l = c .before .loop in
+    (omega arith, all-next addressHoldable (c .before .before .args .t1) (l .i) (l .can) (search needs) (l .inv .1))
+
+returns : tie.Need-returns Inv-loop μ-loop
+returns c =
+    let l = c .before .loop in
+    all-end addressHoldable (c .before .before .args .t1) (l .i) (l .can) (search needs) (l .inv .1)
+
+pub addresses-can-hold-spec : {M : Type 1} → statement M
+addresses-can-hold-spec =
+    tie.close
+    (tie.spec
+    Inv-loop
+    μ-loop
+    loop-holds
+    (λ c. search needs)
+    (λ c. search needs)
+    (λ c. search needs)
+    (λ c. search needs)
+    loop-again
+    returns)

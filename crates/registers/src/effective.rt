@@ -1,0 +1,38 @@
+// The effective mode of an access.
+use crate::Registers;
+use pmp::Access;
+use pmp::Mode;
+ghost use mathlib.Core.Path.{_≡_};
+ghost use Rattle.registers.specs.Effective.{modeOf, dataMode, effectiveMode};
+
+// The mode of a number: 0 is U, 1 is S, and any other M.
+pub fn mode_of(number: u64) -> Mode
+    ensures { λ r. ⌜ r ≡ modeOf number ⌝ }
+{
+    match number {
+        0 => Mode::User,
+        1 => Mode::Supervisor,
+        _ => Mode::Machine,
+    }
+}
+
+// The number of the mode that a load or a store uses.
+fn data_mode(r: Registers) -> u64
+    ensures { λ mode. ⌜ mode ≡ dataMode r ⌝ }
+{
+    if (r.mstatus >> 17) % 2 == 1 {
+        (r.mstatus & 0x1800) / 0x800
+    } else {
+        r.mode
+    }
+}
+
+pub fn effective_mode(r: Registers, access: Access) -> Mode
+    ensures { λ mode. ⌜ mode ≡ effectiveMode r access ⌝ }
+{
+    match access {
+        Access::Fetch => mode_of(r.mode),
+        Access::Load => mode_of(data_mode(r)),
+        Access::Store => mode_of(data_mode(r)),
+    }
+}

@@ -1,0 +1,54 @@
+-- Texts and words turn into each other without loss, and no second text stands for the same words.
+use Prim.Native.Nat.{ℕ}
+use mathlib.Core.Path.{_≡_, refl, sym, ap, _∙_}
+use mathlib.Core.Bool.{Bool, true, false, cond}
+use mathlib.Core.List.{List, _∷_}
+use native.Mathlib.Omega.{arith}
+use lib.ListN.{replicate}
+use Rattle.lines.specs.Lines.{bytesOf, hexDigits, lineOf, linesOf, wordsOf, isText}
+use Rattle.lines.proofs.Back.{Words, text-only, words-found, words-back, is-text}
+use Rattle.text.specs.declared.Reading.{Reading}
+use Rattle.text.specs.Text.{keys, textOf, given, refused, readText}
+use Rattle.text.proofs.Form.{text-found, places-length}
+
+-- the text of words gives the words
+pub read-text : (ws : List ℕ) → Words 41 ws → readText (textOf ws) ≡ given ws
+unfolding textOf readText
+read-text ws w = rw (is-text keys 41 text-found ws w, words-back keys 41 text-found ws w)
+
+-- a text that gives words is their text
+pub text-read : (t ws : List ℕ) → readText t ≡ given ws → t ≡ textOf ws
+unfolding textOf readText
+text-read t ws e = go (isText keys t) refl e
+  where
+    go : (b : Bool) → isText keys t ≡ b → cond b (given (wordsOf keys t)) refused ≡ given ws → t ≡ linesOf keys 0 ws
+    go true p q = text-only keys t p ∙ ap (λ (r : Reading). linesOf keys 0 (r .words)) q
+    go false p q = let z : false ≡ true = ap (λ (r : Reading). r .ok) q in cc
+
+-- no second text stands for the same words
+pub one-text : (t u ws : List ℕ) → readText t ≡ given ws → readText u ≡ given ws → t ≡ u
+one-text t u ws p q = text-read t ws p ∙ sym (text-read u ws q)
+
+-- a text that is refused is the text of no words
+pub refused-none : (t ws : List ℕ) → readText t .ok ≡ false → Words 41 ws → t ≡ textOf ws → ⊥
+refused-none t ws p w e =
+    let q : true ≡ false = sym (ap (λ (r : Reading). r .ok) (ap readText e ∙ read-text ws w)) ∙ p in
+    let z : _≡_ {A = ℕ} 0 1 = cc in
+    omega arith
+
+-- what is read is 41 words of 64 bits
+pub read-words : (t ws : List ℕ) → readText t ≡ given ws → Words 41 ws
+unfolding readText
+read-words t ws e = go (isText keys t) e
+  where
+    go : (b : Bool) → cond b (given (wordsOf keys t)) refused ≡ given ws → Words 41 ws
+    go true q =
+        let v : wordsOf keys t ≡ ws = ap (λ (r : Reading). r .words) q in
+        let w : Words 41 (wordsOf keys t) = rw places-length at (words-found keys t) in
+        rw v at w
+    go false q = let z : false ≡ true = ap (λ (r : Reading). r .ok) q in let y : _≡_ {A = ℕ} 0 1 = cc in absurd (omega arith)
+
+-- 01: the reset state is that text with every value 0 except mode 3, pc 1000, mstatus a00000000
+pub reset-text : textOf (3 ∷ 0x1000 ∷ 0xa00000000 ∷ replicate 38 0) ≡ bytesOf "mode=0000000000000003\npc=0000000000001000\nmstatus=0000000a00000000\nmedeleg=0000000000000000\nmideleg=0000000000000000\nmie=0000000000000000\nmip=0000000000000000\nlines=0000000000000000\nmtvec=0000000000000000\nmcounteren=0000000000000000\nmcountinhibit=0000000000000000\nmscratch=0000000000000000\nmepc=0000000000000000\nmcause=0000000000000000\nmtval=0000000000000000\nstvec=0000000000000000\nscounteren=0000000000000000\nsscratch=0000000000000000\nsepc=0000000000000000\nscause=0000000000000000\nstval=0000000000000000\nmcycle=0000000000000000\nminstret=0000000000000000\npmpcfg0=0000000000000000\npmpcfg2=0000000000000000\npmpaddr0=0000000000000000\npmpaddr1=0000000000000000\npmpaddr2=0000000000000000\npmpaddr3=0000000000000000\npmpaddr4=0000000000000000\npmpaddr5=0000000000000000\npmpaddr6=0000000000000000\npmpaddr7=0000000000000000\npmpaddr8=0000000000000000\npmpaddr9=0000000000000000\npmpaddr10=0000000000000000\npmpaddr11=0000000000000000\npmpaddr12=0000000000000000\npmpaddr13=0000000000000000\npmpaddr14=0000000000000000\npmpaddr15=0000000000000000\n"
+unfolding bytesOf keys hexDigits lineOf linesOf textOf
+reset-text = refl

@@ -1,0 +1,6 @@
+-- The definitions that the contracts cite.
+pub mod Number
+pub mod Enter
+pub mod Interrupt
+pub mod Return
+pub mod Time
