@@ -3,7 +3,7 @@ use Prim.Native.Nat.{ℕ, _-_, _≤_, min}
 use mathlib.Core.Path.{_≡_}
 use mathlib.Core.List.{List}
 use native.Mathlib.Omega.{arith}
-use lib.ListN.{length, replicate}
+use lib.ListN.{length, take, replicate}
 use lib.Seq.{take-append-seam}
 use Rattle.pmp.specs.Entry.{entrySpan}
 use Rattle.pmp.specs.Rule.{ownerOf}
@@ -38,3 +38,12 @@ module _ (cfgs addrs : List ℕ) where
   pub read-back : rangesIn (compiled cfgs addrs) ≡ rangesOf cfgs addrs
   unfolding compiled
   read-back = read-back-list (rangesOf cfgs addrs) count-bound
+
+  -- up to its count, of at most 33, the compiled map is the ranges of the registers
+  pub compiled-ranges : take (compiled cfgs addrs .count) (compiled cfgs addrs .ranges) ≡ rangesOf cfgs addrs
+  unfolding compiled
+  compiled-ranges = take-append-seam (rangesOf cfgs addrs) (replicate (33 - length (rangesOf cfgs addrs)) padding)
+
+  pub compiled-count : compiled cfgs addrs .count ≤ 33
+  unfolding compiled
+  compiled-count = count-bound
