@@ -68,14 +68,6 @@ pub fn is_pmp(n: u64) -> bool
     (n == 0x3A0) | ((n == 0x3A2) | ((0x3B0 <= n) & (n <= 0x3BF)))
 }
 
-// The entry whose pmpaddr has this number.
-pub fn entry_of(n: u64) -> usize
-    requires { ⌜ (0x3B0 ≤ n) × (n ≤ 0x3BF) ⌝ }
-    ensures { λ r. ⌜ (r ≡ n - 0x3B0) × (r < 16) ⌝ }
-{
-    (n - 0x3B0) as usize
-}
-
 fn pmp_shown(p: Pmp, n: u64) -> u64
     requires { ⌜ isPmp n ≡ true ⌝ }
     ensures { λ r. ⌜ r ≡ pmpShown p n ⌝ }
@@ -85,7 +77,10 @@ fn pmp_shown(p: Pmp, n: u64) -> u64
     match n {
         0x3A0 => low(cfgs),
         0x3A2 => high(cfgs),
-        _ => addrs[entry_of(n)],
+        _ => {
+            let entry = (n % 16) as usize;
+            addrs[entry]
+        }
     }
 }
 

@@ -1,7 +1,6 @@
 // What a write stores.
 use crate::Operation;
 use crate::State;
-use crate::show::entry_of;
 use crate::show::is_pmp;
 use crate::show::read;
 use registers::LevelRegisters;
@@ -245,9 +244,9 @@ fn pmp_written(p: Pmp, n: u64, value: u64) -> Pmp
             w
         }
         _ => {
-            let i = entry_of(n);
-            let old = w.addrs[i];
-            w.addrs[i] = address_written(cfgs, i, old, value);
+            let entry = (n % 16) as usize;
+            let old = w.addrs[entry];
+            w.addrs[entry] = address_written(cfgs, entry, old, value);
             w
         }
     }
