@@ -62,6 +62,7 @@ fn counter_shown(r: Registers, n: u64) -> u64
     }
 }
 
+// Whether a number is that of a protection register.
 pub fn is_pmp(n: u64) -> bool
     ensures { λ r. ⌜ r ≡ isPmp n ⌝ }
 {
@@ -78,7 +79,7 @@ fn pmp_shown(p: Pmp, n: u64) -> u64
         0x3A0 => low(cfgs),
         0x3A2 => high(cfgs),
         _ => {
-            let entry = (n % 16) as usize;
+            let entry = (n % 16) as usize; // pmpaddr0 is 3B0
             addrs[entry]
         }
     }

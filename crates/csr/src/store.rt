@@ -208,6 +208,7 @@ fn next_config(cfgs: [u8; 16], i: usize) -> u8
     if i < 15 { cfgs[i + 1] } else { 0 }
 }
 
+// Whether entry i is locked, or the next one is locked with A=TOR.
 fn is_address_frozen(cfgs: [u8; 16], i: usize) -> bool
     requires { ⌜ i < 16 ⌝ }
     ensures { λ r. ⌜ r ≡ addressFrozen cfgs i ⌝ }
@@ -244,7 +245,7 @@ fn pmp_written(p: Pmp, n: u64, value: u64) -> Pmp
             w
         }
         _ => {
-            let entry = (n % 16) as usize;
+            let entry = (n % 16) as usize; // pmpaddr0 is 3B0
             let old = w.addrs[entry];
             w.addrs[entry] = address_written(cfgs, entry, old, value);
             w
@@ -252,6 +253,7 @@ fn pmp_written(p: Pmp, n: u64, value: u64) -> Pmp
     }
 }
 
+// A write of any value: to the protection registers, or to the others.
 fn stored_value(s: State, n: u64, value: u64) -> State
     ensures { λ r. ⌜ r ≡ stored s n value ⌝ }
 {
