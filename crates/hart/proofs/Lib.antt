@@ -1,6 +1,7 @@
 -- Laws of the definitions, and the larger theorems.
 pub mod Worked
 pub mod StepLaws
+pub mod RunLaws
 pub mod Kept
 pub mod Answered
 pub mod Holds
