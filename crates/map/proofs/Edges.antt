@@ -1,6 +1,6 @@
 -- Each inner boundary of the painted ranges is the first byte that an entry matches, or the byte after its last. Assumes nothing.
 use Prim.Native.Nat.{ℕ, zero, suc, _-_, _≤_, _<_, min, max}
-use mathlib.Core.Path.{_≡_, refl, sym, subst}
+use mathlib.Core.Path.{_≡_, refl, subst}
 use mathlib.Core.Bool.{Bool, true, false, cond}
 use mathlib.Core.List.{List, [], _∷_, _++_}
 use mathlib.Core.Logic.{_⊎_, inl, inr, ⊎-elim}
@@ -11,7 +11,7 @@ use Rattle.pmp.specs.declared.Span.{Span}
 use Rattle.pmp.specs.Entry.{entrySpan}
 use Rattle.map.specs.declared.Range.{Range}
 use Rattle.map.specs.Lookup.{holdsByte}
-use Rattle.map.specs.Ranges.{range, part, laid, overlay, paint, painted, rangesOf, Covers, Edge, StartAtEdges, InnerEdges}
+use Rattle.map.specs.Ranges.{range, part, laid, overlay, painted, rangesOf, Covers, Edge, StartAtEdges, InnerEdges}
 use Rattle.map.proofs.Lawful.{less}
 use Rattle.map.proofs.MapLaws.{is-map}
 

@@ -32,6 +32,19 @@ abbrev pub Lawful : (ℕ → ℕ) → ℕ → ℕ → List Range → Type 0
 Lawful owner before from [] = from ≡ top
 Lawful owner before from (r ∷ rs) = Head owner before from r × Lawful owner (r .owner) (suc (r .last)) rs
 
+-- the owner of the first range differs from `before`
+abbrev Opens : ℕ → List Range → Type 0
+Opens before [] = Unit {0}
+Opens before (r ∷ rs) = r .owner ≡ before → ⊥
+
+opens : (r : Range) (rs : List Range) → Parted (r ∷ rs) → Opens (r .owner) rs
+opens r [] p = tt
+opens r (s ∷ rs) p = λ e. p .0 (sym e)
+
+parted-tail : (r : Range) (rs : List Range) → Parted (r ∷ rs) → Parted rs
+parted-tail r [] p = tt
+parted-tail r (s ∷ rs) p = p .1
+
 module _ (owner : ℕ → ℕ) where
   covers : (before from : ℕ) (rs : List Range) → Lawful owner before from rs → Covers from rs
   covers before from [] l = l
@@ -46,19 +59,6 @@ module _ (owner : ℕ → ℕ) where
   owned before from [] l = tt
   owned before from (r ∷ rs) l =
       (λ byte x y. l .0 .owned byte (omega (arith, l .0 .starts)) y, owned (r .owner) (suc (r .last)) rs (l .1))
-
-  -- the owner of the first range differs from `before`
-  abbrev Opens : ℕ → List Range → Type 0
-  Opens before [] = Unit {0}
-  Opens before (r ∷ rs) = r .owner ≡ before → ⊥
-
-  opens : (r : Range) (rs : List Range) → Parted (r ∷ rs) → Opens (r .owner) rs
-  opens r [] p = tt
-  opens r (s ∷ rs) p = λ e. p .0 (sym e)
-
-  parted-tail : (r : Range) (rs : List Range) → Parted (r ∷ rs) → Parted rs
-  parted-tail r [] p = tt
-  parted-tail r (s ∷ rs) p = p .1
 
   lawful : (before from : ℕ) (rs : List Range) → Opens before rs → Covers from rs → Parted rs → Owned owner rs → Lawful owner before from rs
   lawful before from [] d c p o = c
@@ -137,7 +137,7 @@ module _ (cfgs addrs : List ℕ) where
     owned = owned (ownerOf cfgs addrs) 17 0 rs l;
   }
 
-  start-opens : (rs : List Range) → Covers 0 rs → Owned (ownerOf cfgs addrs) rs → Opens (ownerOf cfgs addrs) 17 rs
+  start-opens : (rs : List Range) → Covers 0 rs → Owned (ownerOf cfgs addrs) rs → Opens 17 rs
   start-opens [] c o = tt
   start-opens (r ∷ rs) c o = λ e. omega (arith, o .0 (r .first) (omega arith) (c .1), owner-bound cfgs addrs (r .first))
 

@@ -1,8 +1,10 @@
 -- Laws of the definitions, which the functions' proofs and other crates cite.
 pub mod Lawful
+pub mod SpanLaws
 pub mod Painting
 pub mod MapLaws
 pub mod Edges
 pub mod LookupLaws
 pub mod QueryLaws
+pub mod RunLaws
 pub mod SweepLaws

@@ -1,6 +1,6 @@
 -- The range that holds a byte: what is found holds it, how a loop finds it, and where it is found on a lawful list. Assumes nothing.
 use Prim.Native.Nat.{ℕ, suc, _+_, _≤_, _<_}
-use mathlib.Core.Path.{_≡_, refl, sym, subst, _∙_}
+use mathlib.Core.Path.{_≡_, sym, subst, _∙_}
 use mathlib.Core.Bool.{cond}
 use mathlib.Core.List.{List, [], _∷_, map}
 use mathlib.Core.Logic.{_⊎_, inl, inr}
@@ -11,7 +11,6 @@ use lib.Seq.{drop-cons, getD-take, length-take-le}
 use borrow.Author.Tests.{le-leb, lt-leb}
 use Rattle.pmp.specs.Entry.{top}
 use Rattle.map.specs.declared.Range.{Range}
-use Rattle.map.specs.declared.Found.{Found}
 use Rattle.map.specs.declared.Found.the-variants.{At, Nothing}
 use Rattle.map.specs.Lookup.{holdsByte, findRange}
 use Rattle.map.proofs.Lawful.{less, Lawful, Run, head-run}

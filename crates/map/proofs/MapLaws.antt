@@ -1,14 +1,13 @@
 -- The ranges of the entries are the map of 01, and the only one. Assumes nothing.
-use Prim.Native.Nat.{ℕ, zero, suc, _+_, _-_, _≤_, _<_, min}
-use mathlib.Core.Path.{_≡_, refl, sym, ap, _∙_}
-use mathlib.Core.List.{List, [], _∷_, _++_}
+use Prim.Native.Nat.{ℕ, zero, suc, _-_, _≤_, min}
+use mathlib.Core.Path.{_≡_}
+use mathlib.Core.List.{List}
 use native.Mathlib.Omega.{arith}
-use lib.ListN.{length, take, replicate}
+use lib.ListN.{length, replicate}
 use lib.Seq.{take-append-seam}
-use Rattle.pmp.specs.Entry.{top, trailingOnes, spanOf, fieldA, addressBefore, entrySpan}
+use Rattle.pmp.specs.Entry.{top, spanOf, entrySpan}
 use Rattle.pmp.specs.Rule.{ownerOf}
 use Rattle.map.specs.declared.Range.{Range}
-use Rattle.map.specs.declared.Map.{Map}
 use Rattle.map.specs.Lookup.{rangesIn}
 use Rattle.map.specs.Ranges.{rangesOf, IsMap, padding, mapOf, compiled}
 use Rattle.map.proofs.Lawful.{Lawful, lawful-map}

@@ -1,23 +1,23 @@
 -- The painted ranges are lawful and few, and each starts where an entry's bytes start or end. Assumes nothing.
 use Prim.Native.Nat.{ℕ, zero, suc, _+_, _-_, _*_, _≤_, _<_, min, max}
 use mathlib.Core.Path.{_≡_, refl, sym, ap, subst, fun-ext, _∙_}
-use mathlib.Core.Bool.{Bool, true, false, cond, _&&_}
+use mathlib.Core.Bool.{true, false, cond}
 use mathlib.Core.List.{List, [], _∷_, _++_}
 use mathlib.Core.Logic.{_⊎_, inl, inr, ⊎-elim}
 use native.Mathlib.Omega.{arith}
 use lib.ListN.{length}
-use lib.Dec.{leb, ltb}
-use borrow.Author.Tests.{lt-ltb, le-ltb, le-leb, lt-leb, ltb-true}
+use lib.Dec.{leb}
+use borrow.Author.Tests.{lt-ltb, le-ltb, le-leb, lt-leb}
 use Rattle.pmp.specs.declared.Span.{Span}
 use Rattle.pmp.specs.Search.{lowest}
-use Rattle.pmp.specs.Entry.{top, spanOf, fieldA, addressBefore, entrySpan, contains}
-use Rattle.pmp.specs.Rule.{none, ownerOf}
+use Rattle.pmp.specs.Entry.{top, contains}
 use Rattle.pmp.proofs.SearchLaws.{lowest-within}
 use Rattle.map.specs.declared.Range.{Range}
 use Rattle.map.specs.Lookup.{holdsByte}
 use Rattle.map.specs.Ranges.{range, part, laid, overlay, paint, painted}
 use Rattle.map.specs.Sweep.{settled}
 use Rattle.map.proofs.Lawful.{less, Head, Lawful}
+use Rattle.map.proofs.SpanLaws.{and-false, span-inside, span-before, span-behind}
 
 -- ---- the parts of a range over which bytes are laid
 
@@ -38,10 +38,6 @@ holds-in r b x y = rw (le-leb (r .first) b x, le-leb b (r .last) y)
 holds-before : (r : Range) (b : ℕ) → b < r .first → holdsByte r b ≡ false
 holds-before r b x = rw (lt-leb (r .first) b x)
 
-and-false : (a b : Bool) → b ≡ false → (a && b) ≡ false
-and-false true b e = e
-and-false false b e = refl
-
 holds-behind : (r : Range) (b : ℕ) → r .last < b → holdsByte r b ≡ false
 holds-behind r b x = and-false (leb (r .first) b) (leb b (r .last)) (lt-leb b (r .last) x)
 
@@ -50,13 +46,13 @@ abbrev over : Span → ℕ → (ℕ → ℕ) → ℕ → ℕ
 over s i own b = cond (contains s b) i (own b)
 
 over-in : (s : Span) (i : ℕ) (own : ℕ → ℕ) (b : ℕ) → s .low ≤ b → b < s .high → over s i own b ≡ i
-over-in s i own b p q = rw (le-leb (s .low) b p, lt-ltb b (s .high) q)
+over-in s i own b p q = rw (span-inside s b p q)
 
 over-before : (s : Span) (i : ℕ) (own : ℕ → ℕ) (b : ℕ) → b < s .low → over s i own b ≡ own b
-over-before s i own b p = rw (lt-leb (s .low) b p)
+over-before s i own b p = rw (span-before s b p)
 
 over-behind : (s : Span) (i : ℕ) (own : ℕ → ℕ) (b : ℕ) → s .high ≤ b → over s i own b ≡ own b
-over-behind s i own b p = rw (and-false (leb (s .low) b) (ltb b (s .high)) (le-ltb b (s .high) p))
+over-behind s i own b p = rw (span-behind s b p)
 
 -- what is left of the range behind the bytes
 abbrev rest : Span → Range → List Range

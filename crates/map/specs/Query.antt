@@ -11,7 +11,6 @@ use Rattle.pmp.specs.Number.{faultCause}
 use Rattle.pmp.specs.Search.{anyByte, everyByte}
 use Rattle.pmp.specs.Entry.{top}
 use Rattle.pmp.specs.Rule.{none, ownerDecides, isSize}
-use Rattle.map.specs.declared.Range.{Range}
 use Rattle.map.specs.declared.Map.{Map}
 use Rattle.map.specs.declared.Found.{Found}
 use Rattle.map.specs.declared.Found.the-variants.{At, Nothing}

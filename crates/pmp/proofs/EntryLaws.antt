@@ -1,16 +1,18 @@
 -- Laws of the bytes that an entry matches. Assumes nothing.
-use mathlib.Core.Path.{_≡_, refl, ap, sym, _∙_}
-use mathlib.Core.Bool.{cond}
+use mathlib.Core.Path.{_≡_, refl, ap}
+use mathlib.Core.Bool.{true, false, cond}
 use mathlib.Core.List.{List}
 use Prim.Native.Nat.{ℕ, zero, suc, _+_, _-_, _*_, _/_, _%_, _^_, _≤_, _<_, min}
 use native.Mathlib.Nat.{pow-suc}
 use native.Mathlib.Omega.{arith}
 use lib.Count.{trailingZeros, under}
-use lib.Dec.{eqb}
+use lib.Dec.{leb, ltb, eqb}
 use lib.ListN.{getD}
 use lib.Pow.{pow-add, pow-lt, pow-mono, pow-pos}
+use borrow.Author.Tests.{leb-true, ltb-true, le-leb, lt-leb, lt-ltb}
 use Rattle.pmp.specs.declared.Span.{Span}
-use Rattle.pmp.specs.Entry.{top, trailingOnes, napot, spanOf, addressBefore}
+use Rattle.pmp.specs.Entry.{top, trailingOnes, napot, spanOf, addressBefore, contains}
+use Rattle.pmp.proofs.SearchLaws.{and-true, not-true-false}
 
 -- two spans with equal ends are equal
 pub span-same : {a b c d : ℕ} → a ≡ c → b ≡ d → _≡_ {A = Span} (record { low = a; high = b }) (record { low = c; high = d })
@@ -102,3 +104,26 @@ before-first addrs (suc i) e = absurd (omega arith)
 pub before-next : (addrs : List ℕ) (i : ℕ) → (i ≡ 0 → ⊥) → getD addrs (i - 1) 0 ≡ addressBefore addrs i
 before-next addrs zero h = absurd (h refl)
 before-next addrs (suc i) h = let e : suc i - 1 ≡ i = omega arith in rw e
+
+-- ---- where a span lies
+
+pub span-bounds : (a addr before : ℕ) → (spanOf a addr before .low ≤ top) × (spanOf a addr before .high ≤ top)
+unfolding spanOf
+span-bounds zero addr before = omega arith
+span-bounds (suc zero) addr before = omega arith
+span-bounds (suc (suc zero)) addr before = omega arith
+span-bounds (suc (suc (suc a))) addr before = omega arith
+
+module _ (s : Span) (byte : ℕ) where
+  pub contains-bounds : contains s byte ≡ true → (s .low ≤ byte) × (byte < s .high)
+  contains-bounds e =
+      let both = and-true (leb (s .low) byte) (ltb byte (s .high)) e in (leb-true _ _ (both .0), ltb-true _ _ (both .1))
+
+  pub contains-inside : s .low ≤ byte → byte < s .high → contains s byte ≡ true
+  contains-inside l h = rw (le-leb _ _ l, lt-ltb _ _ h)
+
+  pub contains-below : byte < s .low → contains s byte ≡ false
+  contains-below h = rw (lt-leb _ _ h)
+
+  pub contains-beyond : s .high ≤ byte → contains s byte ≡ false
+  contains-beyond h = not-true-false (contains s byte) (λ e. let b = contains-bounds e in absurd (omega arith))

@@ -1,6 +1,6 @@
 -- The byte rule by the owners of an access's bytes: bytes of one owner are decided by it, and bytes of two owners fault.
 -- So a map of ranges with one owner each answers every access. Assumes nothing.
-use mathlib.Core.Path.{_≡_, refl, sym, ap, _∙_}
+use mathlib.Core.Path.{_≡_, sym, ap, _∙_}
 use mathlib.Core.Bool.{Bool, true, false}
 use mathlib.Core.List.{List}
 use Prim.Native.Nat.{ℕ, _+_, _≤_, _<_}
@@ -11,7 +11,7 @@ use Rattle.pmp.specs.declared.Mode.{Mode}
 use Rattle.pmp.specs.declared.Access.{Access}
 use Rattle.pmp.specs.declared.Decision.the-variants.{Fault}
 use Rattle.pmp.specs.Number.{faultCause}
-use Rattle.pmp.specs.Search.{lowest, anyByte, everyByte}
+use Rattle.pmp.specs.Search.{anyByte, everyByte}
 use Rattle.pmp.specs.Entry.{top, matches}
 use Rattle.pmp.specs.Rule.{lowestMatch, matchDecides, byteRule, ownerOf, ownerDecides}
 use Rattle.pmp.proofs.SearchLaws.{lowest-fails, lowest-passes, lowest-within, lowest-unique, any-fails, any-none, any-some, every-passes, every-all, not-true-false}

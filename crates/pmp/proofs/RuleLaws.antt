@@ -10,10 +10,11 @@ use lib.ListN.{getD}
 use borrow.Author.Tests.{lt-ltb, le-ltb, le-leb, lt-leb, eqb-true}
 use Rattle.pmp.specs.declared.Mode.{Mode}
 use Rattle.pmp.specs.declared.Access.{Access}
+use Rattle.pmp.specs.declared.Span.{Span}
 use Rattle.pmp.specs.declared.Decision.the-variants.{Fault, Refused}
 use Rattle.pmp.specs.Number.{faultCause}
 use Rattle.pmp.specs.Search.{anyByte, everyByte}
-use Rattle.pmp.specs.Entry.{top, matches}
+use Rattle.pmp.specs.Entry.{top, entrySpan, contains, matches}
 use Rattle.pmp.specs.Rule.{entryDecides, noneDecides, lowestMatch, matchDecides, byteRule, isSize, checked}
 use Rattle.pmp.proofs.SearchLaws.{any-none, any-some}
 
@@ -26,12 +27,25 @@ some-beyond limit size address p h =
     any-some (leb limit) size address (address + size - 1) (omega arith) (omega arith) (le-leb limit (address + size - 1) (omega arith))
 
 module _ (cfgs addrs : List ℕ) (mode : Mode) (access : Access) (address size : ℕ) where
+  -- entry i decides, and whether it matches all bytes picks how
   pub match-decides : (i : ℕ) (all : Bool) → i < 16 → everyByte (matches cfgs addrs i) size address ≡ all
       → matchDecides cfgs addrs mode access address size i ≡ cond all (entryDecides mode access (getD cfgs i 0)) (Fault (faultCause access))
   match-decides i all h e = rw (lt-ltb i 16 h, e)
 
   pub none-decides : (i : ℕ) → 16 ≤ i → matchDecides cfgs addrs mode access address size i ≡ noneDecides mode access
   none-decides i h = rw (le-ltb i 16 h)
+
+  -- the same, of what a program finds: the lowest match i and its span s
+  pub found-decides : (i : ℕ) (s : Span) (all : Bool) → i ≡ lowestMatch cfgs addrs address size → i < 16
+      → s ≡ entrySpan cfgs addrs i → everyByte (contains s) size address ≡ all
+      → cond all (entryDecides mode access (getD cfgs i 0)) (Fault (faultCause access))
+      ≡ matchDecides cfgs addrs mode access address size (lowestMatch cfgs addrs address size)
+  found-decides i s all e h w m =
+      rw (← e) (sym (match-decides i all h (sym (ap (λ (r : Span). everyByte (contains r) size address) w) ∙ m)))
+
+  pub unfound-decides : (i : ℕ) → i ≡ lowestMatch cfgs addrs address size → 16 ≤ i
+      → noneDecides mode access ≡ matchDecides cfgs addrs mode access address size (lowestMatch cfgs addrs address size)
+  unfound-decides i e h = rw (← e) (sym (none-decides i h))
 
   -- below the end of memory the lowest matching entry decides, and past it the access faults
   pub inside-decides : address + size ≤ top

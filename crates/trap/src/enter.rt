@@ -97,7 +97,7 @@ fn handler_address(tvec: u64, trap: Trap) -> u64
 {
     let base = tvec - tvec % 4;
     match trap {
-        Trap::Exception(cause) => base,
+        Trap::Exception(_) => base,
         Trap::Interrupt(number) => {
             if tvec % 4 == 1 {
                 std::num::wrapping_add_u64(base, 4 * number)

@@ -1,16 +1,15 @@
-use Prim.Native.Nat.{_≤_, _-_}
+-- `map::find` meets its contract: the search in the ranges from k on finds what the whole search does. Assumes nothing.
+use Prim.Native.Nat.{_+_, _-_, _≤_}
 use mathlib.Core.Path.{_≡_, refl, _∙_}
+use mathlib.Core.Bool.{cond}
 use native.Mathlib.Omega.{arith}
 use borrow.Author.Needs.{needs}
-use lib.ListN.{length, take, drop}
-use Rattle.map.specs.Lookup.{findRange}
+use lib.ListN.{length, getD, take, drop}
+use Rattle.map.specs.declared.Found.the-variants.{At}
+use Rattle.map.specs.Lookup.{holdsByte, findRange}
 use Rattle.map.proofs.LookupLaws.{find-step, find-end, unmapped}
 use Rattle.map.proofs.find.Statement.{statement}
 use Rattle.map.proofs.find.Tie as tie
-use Rattle.map.proofs.find.Reads as reads
-use Rattle.map.proofs.find.Lts as lts
-use Rattle.map.proofs.count_read.Reads as count-read-reads
-use Rattle.map.proofs.holds.Reads as holds-reads
 
 abbrev Inv-loop : tie.InvT-loop
 Inv-loop byte map n k₀ k =
@@ -19,66 +18,36 @@ Inv-loop byte map n k₀ k =
 abbrev μ-loop : tie.MeasureT-loop
 μ-loop byte map n k₀ k = n - k
 
--- src/lib.rt:94:9
-count-read-requires : tie.Need-count-read-requires Inv-loop μ-loop
-count-read-requires c κs = search needs
-
--- src/lib.rt:96:5
 loop-holds : tie.Need-loop-holds Inv-loop μ-loop
 loop-holds c = (omega arith, omega (arith, c .count-read .ensures), search (needs, unmapped), refl)
 
--- src/lib.rt:97:21
-mul-range : tie.Need-mul-range Inv-loop μ-loop
-mul-range c = search needs
+-- the search goes on with range k
+step : (c : tie.In-loop Inv-loop μ-loop) → let l = c .before .loop in let f = c .before .before in let a = f .before .args in
+    findRange (drop (l .k) (take (f .count-read .result) (a .t1 .ranges))) (a .byte)
+    ≡ cond (holdsByte (getD (a .t1 .ranges) (l .k) (record { first = 0; last = 0; owner = 0 })) (a .byte))
+    (At (getD (a .t1 .ranges) (l .k) (record { first = 0; last = 0; owner = 0 })))
+    (findRange (drop (l .k + 1) (take (f .count-read .result) (a .t1 .ranges))) (a .byte))
+step c =
+    let f = c .before .before in
+    find-step (f .count-read .result) (c .before .loop .k) (f .before .args .t1 .ranges) _ (f .before .args .byte) (c .loop-test .taken) (omega arith)
 
--- src/lib.rt:97:21
-element-copy-out-range : tie.Need-element-copy-out-range Inv-loop μ-loop
-element-copy-out-range c = search needs
-
--- src/lib.rt:98:12
-holds-requires : tie.Need-holds-requires Inv-loop μ-loop
-holds-requires c κs = search needs
-
--- src/lib.rt:99:13
 returns : tie.Need-returns Inv-loop μ-loop
 returns c =
-    let a = c .before .before .before .before in
-    let l = a .loop in
-    rw (
-      ← c .before .before .before .before .before .count-read .ensures,
-      l .inv .3,
-      find-step (a .before .count-read .result) (l .k) (a .before .before .args .t1 .ranges) (record { first = 0; last = 0; owner = 0 }) (a .before .before .args .byte) (c .before .before .before .loop-test .taken) (omega arith),
-      ← c .before .holds .ensures,
-      c .if1 .taken,
-    )
+    let i = c .before .before .before in
+    rw (← i .before .before .count-read .ensures, i .before .loop .inv .3, step i, ← c .before .holds .ensures, c .if1 .taken)
 
--- src/lib.rt:101:9
-add-k : tie.Need-add-k Inv-loop μ-loop
-add-k c = search needs
-
--- src/lib.rt:96:5
-loop-less : tie.Need-loop-less Inv-loop μ-loop
-loop-less c = search needs
-
--- src/lib.rt:96:5
 loop-again : tie.Need-loop-again Inv-loop μ-loop
 loop-again c =
-    let a = c .before .before .before .before in
-    let l = a .loop in (
-      omega arith,
-      omega arith,
-      l .inv .2,
-      l .inv .3
-          ∙ find-step (a .before .count-read .result) (l .k) (a .before .before .args .t1 .ranges) (record { first = 0; last = 0; owner = 0 }) (a .before .before .args .byte) (c .before .before .before .loop-test .taken) (omega arith)
-          ∙ rw (← c .before .holds .ensures, c .if1 .left),
-    )
+    let i = c .before .before .before in
+    let l = i .before .loop in
+    (omega arith, omega arith, l .inv .2, l .inv .3 ∙ step i ∙ rw (← c .before .holds .ensures, c .if1 .left))
 
--- src/lib.rt:91:1
 returns-2 : tie.Need-returns-2 Inv-loop μ-loop
 returns-2 c =
     let l = c .before .loop in
-    let e : l .k ≡ c .before .before .count-read .result = omega arith in
-    rw (← c .before .before .count-read .ensures, l .inv .3, e, find-end (c .before .before .count-read .result) (c .before .before .before .args .t1 .ranges) (c .before .before .before .args .byte) (omega arith))
+    let f = c .before .before in
+    let e : l .k ≡ f .count-read .result = omega arith in
+    rw (← f .count-read .ensures, l .inv .3, e, find-end (f .count-read .result) (f .before .args .t1 .ranges) (f .before .args .byte) (omega arith))
 
 pub find-spec : {M : Type 1} → statement M
 find-spec =
@@ -86,13 +55,13 @@ find-spec =
     (tie.spec
     Inv-loop
     μ-loop
-    count-read-requires
+    (λ c κs. search needs)
     loop-holds
-    mul-range
-    element-copy-out-range
-    holds-requires
+    (λ c. search needs)
+    (λ c. search needs)
+    (λ c κs. search needs)
     returns
-    add-k
-    loop-less
+    (λ c. search needs)
+    (λ c. search needs)
     loop-again
     returns-2)

@@ -1,14 +1,11 @@
+-- `map::holds` meets its contract. Assumes nothing.
 use borrow.Author.Tests.{le-leb, lt-leb}
 use Rattle.map.proofs.holds.Statement.{statement}
 use Rattle.map.proofs.holds.Tie as tie
-use Rattle.map.proofs.holds.Reads as reads
-use Rattle.map.proofs.holds.Lts as lts
 
--- src/lib.rt:84:1
 returns : tie.Need-returns
 returns c = rw (le-leb _ _ (c .before .if1 .taken))
 
--- src/lib.rt:84:1
 returns-2 : tie.Need-returns-2
 returns-2 c = rw (lt-leb _ _ (c .if1 .left))
 

@@ -1,3 +1,4 @@
+-- `map::query` meets its contract. What is found holds the first byte. Assumes nothing.
 use Prim.Native.Nat.{_<_, _≤_}
 use mathlib.Core.Path.{_≡_, sym, ap, _∙_}
 use mathlib.Core.Bool.{true}
@@ -14,12 +15,6 @@ use Rattle.map.proofs.QueryLaws.{size-refused, beyond-query, reads-rang
 use borrow.Author.Needs.{needs}
 use Rattle.map.proofs.query.Statement.{statement}
 use Rattle.map.proofs.query.Tie as tie
-use Rattle.map.proofs.query.Reads as reads
-use Rattle.map.proofs.query.Lts as lts
-use Rattle.map.proofs.find.Reads as find-reads
-use Rattle.map.proofs.range_decides.Reads as range-decides-reads
-use Rattle.pmp.proofs.fault_cause.Reads as fault-cause-reads
-use Rattle.pmp.proofs.is_size.Reads as is-size-reads
 
 sized : (c : tie.Else1) → isSize (c .before .before .args .size) ≡ true
 sized c = sym (c .before .is-size .ensures) ∙ not-false _ (c .if1 .left)
@@ -27,24 +22,14 @@ sized c = sym (c .before .is-size .ensures) ∙ not-false _ (c .if1 .left)
 bounds : (c : tie.Else1) → (0 < c .before .before .args .size) × (c .before .before .args .size ≤ 8)
 bounds c = size-bounds (c .before .before .args .size) (sized c)
 
-is-size-requires : tie.Need-is-size-requires
-is-size-requires c κs = search needs
-
--- src/lib.rt:173:9
 returns : tie.Need-returns
 returns c =
     let a = c .before .before .args in
     sym (size-refused (a .cfgs) (a .mode) (a .access) (a .address) (a .size) (a .map) (sym (c .before .is-size .ensures) ∙ not-true _ (c .if1 .taken)))
 
--- src/lib.rt:175:8
 sub-if2 : tie.Need-sub-if2
 sub-if2 c = omega (arith, bounds c)
 
--- src/lib.rt:176:37
-fault-cause-requires : tie.Need-fault-cause-requires
-fault-cause-requires c κs = search needs
-
--- src/lib.rt:176:9
 returns-2 : tie.Need-returns-2
 returns-2 c =
     let e = c .before .before in
@@ -53,15 +38,6 @@ returns-2 c =
     ap Fault (c .fault-cause .ensures)
     ∙ sym (beyond-query (a .cfgs) (a .mode) (a .access) (a .address) (a .size) (a .map) (sized e) (omega arith))
 
--- src/lib.rt:178:11
-find-requires : tie.Need-find-requires
-find-requires c κs = search needs
-
--- src/lib.rt:179:19
-enum-known-range : tie.Need-enum-known-range
-enum-known-range c = search needs
-
--- src/lib.rt:179:29
 range-decides-requires : tie.Need-range-decides-requires
 range-decides-requires c κs =
     let f = c .before .before .before in
@@ -70,11 +46,6 @@ range-decides-requires c κs =
     let h = found-holds (rangesIn (a .map)) (a .address) (c .before .range .given .0 .0) e in
     (bounds (f .before .before) .0, h .0, h .1)
 
--- src/lib.rt:180:27
-enum-told : tie.Need-enum-told
-enum-told c = search needs
-
--- src/lib.rt:169:1
 returns-3 : tie.Need-returns-3
 returns-3 c =
     let r = c .before .before in
@@ -86,7 +57,6 @@ returns-3 c =
     ∙ ap (rangeDecides (a .cfgs) (a .mode) (a .access) (a .address) (a .size)) (sym (r .range .given .1) ∙ f .find .ensures)
     ∙ sym (reads-range (a .cfgs) (a .mode) (a .access) (a .address) (a .size) (a .map) (sized e) (omega arith))
 
--- src/lib.rt:169:1
 returns-4 : tie.Need-returns-4
 returns-4 c =
     let f = c .before .before in
@@ -99,14 +69,14 @@ pub query-spec : {M : Type 1} → statement M
 query-spec =
     tie.close
     (tie.spec
-    is-size-requires
+    (λ c κs. search needs)
     returns
     sub-if2
-    fault-cause-requires
+    (λ c κs. search needs)
     returns-2
-    find-requires
-    enum-known-range
+    (λ c κs. search needs)
+    (λ c. search needs)
     range-decides-requires
-    enum-told
+    (λ c. search needs)
     returns-3
     returns-4)

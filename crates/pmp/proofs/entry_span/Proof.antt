@@ -1,6 +1,6 @@
 -- `pmp::entry_span` meets its contract: the A field, a number below 4, picks the clause of the definition. Assumes nothing.
-use borrow.Author.Needs.{needs}
 use native.Mathlib.Omega.{arith}
+use borrow.Author.Needs.{needs}
 use Rattle.pmp.specs.Entry.{spanOf, fieldA}
 use Rattle.pmp.proofs.EntryLaws.{span-same, field-three}
 use Rattle.pmp.proofs.entry_span.Statement.{statement}

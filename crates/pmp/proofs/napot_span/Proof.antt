@@ -1,9 +1,9 @@
 -- `pmp::napot_span` meets its contract. Assumes nothing.
-use borrow.Author.Needs.{needs}
 use mathlib.Core.Path.{_≡_}
 use Prim.Native.Nat.{ℕ, _+_, _*_, _^_, _%_, _<_, _≤_}
 use native.Mathlib.Omega.{arith}
 use lib.Pow.{pow-pos}
+use borrow.Author.Needs.{needs}
 use Rattle.pmp.proofs.EntryLaws.{power-fits, power-mono, power-room, napot-inside, napot-cut, napot-large, napot-whole}
 use Rattle.pmp.proofs.napot_span.Statement.{statement}
 use Rattle.pmp.proofs.napot_span.Tie as tie

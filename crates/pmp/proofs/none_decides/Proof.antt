@@ -1,6 +1,6 @@
 -- `pmp::none_decides` meets its contract. Assumes nothing.
-use borrow.Author.Needs.{needs}
 use mathlib.Core.Path.{ap}
+use borrow.Author.Needs.{needs}
 use Rattle.pmp.specs.declared.Decision.the-variants.{Fault}
 use Rattle.pmp.proofs.none_decides.Statement.{statement}
 use Rattle.pmp.proofs.none_decides.Tie as tie

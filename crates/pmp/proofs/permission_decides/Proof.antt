@@ -1,6 +1,6 @@
 -- `pmp::permission_decides` meets its contract. Assumes nothing.
-use borrow.Author.Needs.{needs}
 use mathlib.Core.Path.{ap}
+use borrow.Author.Needs.{needs}
 use borrow.Author.Tests.{ne-eqb}
 use Rattle.pmp.specs.declared.Decision.the-variants.{Fault}
 use Rattle.pmp.proofs.permission_decides.Statement.{statement}

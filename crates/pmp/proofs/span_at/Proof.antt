@@ -1,7 +1,7 @@
 -- `pmp::span_at` meets its contract. Assumes nothing.
-use borrow.Author.Needs.{needs}
 use mathlib.Core.Path.{_∙_, ap}
 use lib.ListN.{getD}
+use borrow.Author.Needs.{needs}
 use Rattle.pmp.specs.Entry.{spanOf, fieldA}
 use Rattle.pmp.proofs.EntryLaws.{before-first, before-next}
 use Rattle.pmp.proofs.span_at.Statement.{statement}
