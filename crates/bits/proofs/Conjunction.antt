@@ -1,6 +1,6 @@
--- A conjunction of tests, taken apart and put together.
+-- Tests: a conjunction of them taken apart and put together, and a test of one of two values.
 use mathlib.Core.Path.{_≡_, refl}
-use mathlib.Core.Bool.{Bool, true, false, _&&_}
+use mathlib.Core.Bool.{Bool, true, false, cond, _&&_, _||_}
 
 pub both : (a b : Bool) → (a && b) ≡ true → (a ≡ true) × (b ≡ true)
 both true b p = (refl, p)
@@ -8,3 +8,13 @@ both false b p = (p, cc)
 
 pub join : (a b : Bool) → a ≡ true → b ≡ true → (a && b) ≡ true
 join a b p q = rw (p, q)
+
+-- what passes either way passes by choice
+pub choose : {A : Type 0} (test : A → Bool) (b : Bool) (x y : A) → test x ≡ true → test y ≡ true → test (cond b x y) ≡ true
+choose test true x y p q = p
+choose test false x y p q = q
+
+-- neither side of a disjunction that fails holds
+pub neither : (a b : Bool) → (a || b) ≡ false → (a ≡ false) × (b ≡ false)
+neither true b p = (p, cc)
+neither false b p = (refl, p)

@@ -1,3 +1,7 @@
 -- Laws of the definitions, and the larger theorems.
 pub mod Worked
+pub mod StepLaws
 pub mod Kept
+pub mod Answered
+pub mod Holds
+pub mod Faithfulness

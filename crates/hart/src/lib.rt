@@ -6,6 +6,10 @@ use registers::Pmp;
 use registers::Registers;
 use trap::Answer;
 
+pub mod decode;
+mod query;
+mod steps;
+
 // Every register of a hart as a raw number: it can hold what no hart can, and is then refused.
 pub struct Hart {
     pub registers: Registers,

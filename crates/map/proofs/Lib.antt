@@ -1,6 +1,5 @@
 -- Laws of the definitions, which the functions' proofs and other crates cite.
 pub mod Lawful
-pub mod SpanLaws
 pub mod Painting
 pub mod MapLaws
 pub mod Edges

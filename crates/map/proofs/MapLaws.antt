@@ -1,25 +1,18 @@
 -- The ranges of the entries are the map of 01, and the only one. Assumes nothing.
-use Prim.Native.Nat.{ℕ, zero, suc, _-_, _≤_, min}
+use Prim.Native.Nat.{ℕ, _-_, _≤_, min}
 use mathlib.Core.Path.{_≡_}
 use mathlib.Core.List.{List}
 use native.Mathlib.Omega.{arith}
-use lib.ListN.{length, replicate}
+use lib.ListN.{length, take, replicate}
 use lib.Seq.{take-append-seam}
-use Rattle.pmp.specs.Entry.{top, spanOf, entrySpan}
+use Rattle.pmp.specs.Entry.{entrySpan}
 use Rattle.pmp.specs.Rule.{ownerOf}
+use Rattle.pmp.proofs.EntryLaws.{span-bounds}
 use Rattle.map.specs.declared.Range.{Range}
 use Rattle.map.specs.Lookup.{rangesIn}
 use Rattle.map.specs.Ranges.{rangesOf, IsMap, padding, mapOf, compiled}
 use Rattle.map.proofs.Lawful.{Lawful, lawful-map}
 use Rattle.map.proofs.Painting.{Short, painted-lawful}
-
--- an entry's bytes end in memory
-pub span-bound : (a addr before : ℕ) → spanOf a addr before .high ≤ top
-unfolding spanOf
-span-bound zero addr before = omega arith
-span-bound (suc zero) addr before = omega arith
-span-bound (suc (suc zero)) addr before = omega arith
-span-bound (suc (suc (suc a))) addr before = omega arith
 
 pub read-back-list : (rs : List Range) → length rs ≤ 33 → rangesIn (mapOf rs) ≡ rs
 read-back-list rs h =
@@ -29,7 +22,7 @@ read-back-list rs h =
 module _ (cfgs addrs : List ℕ) where
   ranges-lawful : Short (ownerOf cfgs addrs) 17 0 (rangesOf cfgs addrs) 33
   unfolding rangesOf ownerOf
-  ranges-lawful = painted-lawful (entrySpan cfgs addrs) (λ k _. span-bound _ _ _) 16 (omega arith)
+  ranges-lawful = painted-lawful (entrySpan cfgs addrs) (λ k _. span-bounds _ _ _ .1) 16 (omega arith)
 
   pub lawful-ranges : Lawful (ownerOf cfgs addrs) 17 0 (rangesOf cfgs addrs)
   lawful-ranges = ranges-lawful .lawful
@@ -45,3 +38,12 @@ module _ (cfgs addrs : List ℕ) where
   pub read-back : rangesIn (compiled cfgs addrs) ≡ rangesOf cfgs addrs
   unfolding compiled
   read-back = read-back-list (rangesOf cfgs addrs) count-bound
+
+  -- up to its count, of at most 33, the compiled map is the ranges of the registers
+  pub compiled-ranges : take (compiled cfgs addrs .count) (compiled cfgs addrs .ranges) ≡ rangesOf cfgs addrs
+  unfolding compiled
+  compiled-ranges = take-append-seam (rangesOf cfgs addrs) (replicate (33 - length (rangesOf cfgs addrs)) padding)
+
+  pub compiled-count : compiled cfgs addrs .count ≤ 33
+  unfolding compiled
+  compiled-count = count-bound

@@ -11,13 +11,13 @@ use borrow.Author.Tests.{lt-ltb, le-ltb, le-leb, lt-leb}
 use Rattle.pmp.specs.declared.Span.{Span}
 use Rattle.pmp.specs.Search.{lowest}
 use Rattle.pmp.specs.Entry.{top, contains}
-use Rattle.pmp.proofs.SearchLaws.{lowest-within}
+use Rattle.pmp.proofs.SearchLaws.{contradiction, not-true-false, and-true, lowest-within}
+use Rattle.pmp.proofs.EntryLaws.{contains-inside, contains-below, contains-beyond}
 use Rattle.map.specs.declared.Range.{Range}
 use Rattle.map.specs.Lookup.{holdsByte}
 use Rattle.map.specs.Ranges.{range, part, laid, overlay, paint, painted}
 use Rattle.map.specs.Sweep.{settled}
 use Rattle.map.proofs.Lawful.{less, Head, Lawful}
-use Rattle.map.proofs.SpanLaws.{and-false, span-inside, span-before, span-behind}
 
 -- ---- the parts of a range over which bytes are laid
 
@@ -39,20 +39,21 @@ holds-before : (r : Range) (b : ℕ) → b < r .first → holdsByte r b ≡ fals
 holds-before r b x = rw (lt-leb (r .first) b x)
 
 holds-behind : (r : Range) (b : ℕ) → r .last < b → holdsByte r b ≡ false
-holds-behind r b x = and-false (leb (r .first) b) (leb b (r .last)) (lt-leb b (r .last) x)
+holds-behind r b x =
+    not-true-false (holdsByte r b) (λ e. contradiction (and-true (leb (r .first) b) (leb b (r .last)) e .1) (lt-leb b (r .last) x))
 
 -- the owner of each byte once the bytes of s are given to i
 abbrev over : Span → ℕ → (ℕ → ℕ) → ℕ → ℕ
 over s i own b = cond (contains s b) i (own b)
 
 over-in : (s : Span) (i : ℕ) (own : ℕ → ℕ) (b : ℕ) → s .low ≤ b → b < s .high → over s i own b ≡ i
-over-in s i own b p q = rw (span-inside s b p q)
+over-in s i own b p q = rw (contains-inside s b p q)
 
 over-before : (s : Span) (i : ℕ) (own : ℕ → ℕ) (b : ℕ) → b < s .low → over s i own b ≡ own b
-over-before s i own b p = rw (span-before s b p)
+over-before s i own b p = rw (contains-below s b p)
 
 over-behind : (s : Span) (i : ℕ) (own : ℕ → ℕ) (b : ℕ) → s .high ≤ b → over s i own b ≡ own b
-over-behind s i own b p = rw (span-behind s b p)
+over-behind s i own b p = rw (contains-beyond s b p)
 
 -- what is left of the range behind the bytes
 abbrev rest : Span → Range → List Range

@@ -1,6 +1,6 @@
 -- A query on the compiled map answers as the byte rule does, and it reads one range. Assumes nothing.
 use Prim.Native.Nat.{ℕ, suc, _+_, _-_, _≤_, _<_}
-use mathlib.Core.Path.{_≡_, sym, _∙_}
+use mathlib.Core.Path.{_≡_, sym, ap, _∙_}
 use mathlib.Core.Bool.{true, false}
 use mathlib.Core.List.{List}
 use mathlib.Core.Logic.{_⊎_, inl, inr}
@@ -9,6 +9,7 @@ use lib.Dec.{leb}
 use borrow.Author.Tests.{le-leb, lt-leb}
 use Rattle.pmp.specs.declared.Mode.{Mode}
 use Rattle.pmp.specs.declared.Access.{Access}
+use Rattle.pmp.specs.declared.Decision.{Decision}
 use Rattle.pmp.specs.declared.Decision.the-variants.{Fault, Refused}
 use Rattle.pmp.specs.Number.{faultCause}
 use Rattle.pmp.specs.Search.{everyByte}
@@ -19,7 +20,7 @@ use Rattle.pmp.proofs.RuleLaws.{none-beyond, some-beyond, beyond-faults, size-b
 use Rattle.pmp.proofs.Owner.{owner-bound, one-owner, two-owners}
 use Rattle.map.specs.declared.Range.{Range}
 use Rattle.map.specs.declared.Map.{Map}
-use Rattle.map.specs.declared.Found.the-variants.{At}
+use Rattle.map.specs.declared.Found.the-variants.{At, Nothing}
 use Rattle.map.specs.Lookup.{holdsByte, findRange, rangesIn}
 use Rattle.map.specs.Ranges.{rangesOf, compiled}
 use Rattle.map.specs.Query.{rangeDecides, queried}
@@ -51,6 +52,15 @@ module _ (cfgs : List ℕ) (mode : Mode) (access : Access) (address size : ℕ) 
       → queried cfgs map mode access address size ≡ rangeDecides cfgs mode access address size (findRange (rangesIn map) address)
   unfolding queried
   reads-range map e h = rw (e, none-beyond top size address h)
+
+  -- the same, of what a program finds
+  pub found-query : (map : Map) (r : Range) (d : Decision) → isSize size ≡ true → address + size ≤ top → findRange (rangesIn map) address ≡ At r
+      → d ≡ rangeDecides cfgs mode access address size (At r) → d ≡ queried cfgs map mode access address size
+  found-query map r d e h f g = g ∙ ap (rangeDecides cfgs mode access address size) (sym f) ∙ sym (reads-range map e h)
+
+  pub unfound-query : (map : Map) → isSize size ≡ true → address + size ≤ top → findRange (rangesIn map) address ≡ Nothing
+      → Refused 7 ≡ queried cfgs map mode access address size
+  unfound-query map e h f = rw (reads-range map e h, f)
 
   pub beyond-query : (map : Map) → isSize size ≡ true → top < address + size → queried cfgs map mode access address size ≡ Fault (faultCause access)
   unfolding queried

@@ -11,11 +11,11 @@ use Rattle.pmp.specs.declared.Span.{Span}
 use Rattle.pmp.specs.Search.{lowest}
 use Rattle.pmp.specs.Entry.{top, contains}
 use Rattle.pmp.proofs.SearchLaws.{contradiction, lowest-fails, lowest-passes, lowest-unique}
+use Rattle.pmp.proofs.EntryLaws.{contains-inside, contains-below, contains-beyond}
 use Rattle.map.specs.declared.Range.{Range}
 use Rattle.map.specs.Ranges.{range}
 use Rattle.map.specs.Sweep.{Settled, rangeFrom}
 use Rattle.map.proofs.Lawful.{less, Run}
-use Rattle.map.proofs.SpanLaws.{span-inside, span-before, span-behind}
 
 -- ---- a loop over the entries: i is the next one
 
@@ -89,7 +89,7 @@ module _ (spans : ℕ → Span) (at : ℕ) (known : Settled spans) where
       below = omega (arith, f .ahead, f .bound);
       owned = λ b x y.
           lowest-unique (λ j. contains (spans j) b) 16 0 i (omega arith) (omega arith)
-          (λ j u v. f .free j b v x (omega (arith, f .ahead))) (λ _. span-inside (spans i) b (omega arith) (omega (arith, f .ahead)));
+          (λ j u v. f .free j b v x (omega (arith, f .ahead))) (λ _. contains-inside (spans i) b (omega arith) (omega (arith, f .ahead)));
       ends = λ u e. go u e (less (spans i .high) end);
     },
   )
@@ -100,7 +100,7 @@ module _ (spans : ℕ → Span) (at : ℕ) (known : Settled spans) where
           let s : suc (min end (spans i .high) - 1) ≡ spans i .high = omega arith in
           let t : lowestOwner spans (spans i .high) ≡ i = rw s at e in
           let q = lowest-passes (λ j. contains (spans j) (spans i .high)) 16 0 (omega arith) in
-          contradiction (ap (λ (j : ℕ). contains (spans j) (spans i .high)) (sym t) ∙ q) (span-behind (spans i) (spans i .high) (omega arith))
+          contradiction (ap (λ (j : ℕ). contains (spans j) (spans i .high)) (sym t) ∙ q) (contains-beyond (spans i) (spans i .high) (omega arith))
       go u e (inr w) =
           let s : suc (min end (spans i .high) - 1) ≡ end = omega (arith, f .ahead) in
           not-owner i end f (omega arith) (rw s at e)
@@ -111,7 +111,7 @@ module _ (spans : ℕ → Span) (at : ℕ) (known : Settled spans) where
     bound = omega (arith, f .bound);
     free = λ k b u x y.
         ⊎-elim (λ w. f .free k b w x (omega arith))
-        (λ w. let e : i ≡ k = omega arith in subst (λ (j : ℕ). contains (spans j) b ≡ false) e (span-before (spans i) b (omega arith)))
+        (λ w. let e : i ≡ k = omega arith in subst (λ (j : ℕ). contains (spans j) b ≡ false) e (contains-below (spans i) b (omega arith)))
         (less k i);
     closed = go (less (spans i .low) end);
   }
@@ -120,7 +120,7 @@ module _ (spans : ℕ → Span) (at : ℕ) (known : Settled spans) where
           → (min end (spans i .low) ≡ top) ⊎ ((k : ℕ) × (k < suc i) × (contains (spans k) (min end (spans i .low)) ≡ true))
       go (inl w) =
           let e : min end (spans i .low) ≡ spans i .low = omega arith in
-          inr (i, omega arith, rw e (span-inside (spans i) (spans i .low) (omega arith) (known .some i h (omega arith))))
+          inr (i, omega arith, rw e (contains-inside (spans i) (spans i .low) (omega arith) (known .some i h (omega arith))))
       go (inr w) =
           let e : min end (spans i .low) ≡ end = omega arith in
           ⊎-elim (λ z. inl (e ∙ z)) (λ z. inr (z .0, omega (arith, z .1), rw e (z .2))) (f .closed)
@@ -131,7 +131,7 @@ module _ (spans : ℕ → Span) (at : ℕ) (known : Settled spans) where
     bound = f .bound;
     free = λ k b u x y.
         ⊎-elim (λ w. f .free k b w x y)
-        (λ w. let e : i ≡ k = omega arith in subst (λ (j : ℕ). contains (spans j) b ≡ false) e (span-behind (spans i) b (omega arith)))
+        (λ w. let e : i ≡ k = omega arith in subst (λ (j : ℕ). contains (spans j) b ≡ false) e (contains-beyond (spans i) b (omega arith)))
         (less k i);
     closed = ⊎-elim (λ z. inl z) (λ z. inr (z .0, omega (arith, z .1), z .2)) (f .closed);
   }

@@ -1,22 +1,21 @@
 -- The ranges found one after another from the lowest byte up are the map's. Assumes nothing.
+use borrow.Author.Tests.{lt-ltb, le-ltb}
 use Prim.Native.Nat.{ℕ, suc, _+_, _-_, _≤_, _<_}
 use mathlib.Core.Path.{_≡_, refl, sym, ap, subst, _∙_}
 use mathlib.Core.List.{List, [], _∷_, _++_, append-nil}
-use mathlib.Core.Logic.{_⊎_, inl, inr}
+use mathlib.Core.Logic.{_⊎_, inl, inr, ⊎-elim}
 use native.Mathlib.Omega.{arith}
 use native.Mathlib.Numerals.{add-one}
 use lib.ListN.{length, set, replicate, length-append}
 use lib.Seq.{append-snoc, set-at, getD-set-same, getD-set-other}
 use Rattle.pmp.specs.declared.Span.{Span}
-use Rattle.pmp.specs.Search.{lowest}
-use Rattle.pmp.specs.Entry.{top, entrySpan}
+use Rattle.pmp.specs.Entry.{top, entrySpan, span}
+use Rattle.pmp.proofs.EntryLaws.{span-bounds}
 use Rattle.map.specs.declared.Range.{Range}
 use Rattle.map.specs.Ranges.{painted, rangesOf, padding, mapOf, compiled}
 use Rattle.map.specs.Sweep.{settled, Settled, spansIn, rangeFrom}
 use Rattle.map.proofs.Lawful.{less, Lawful, head-run, same-run, from-bound}
 use Rattle.map.proofs.Painting.{Short, painted-lawful, painted-same}
-use Rattle.map.proofs.MapLaws.{span-bound}
-use Rattle.map.proofs.SpanLaws.{settled-some, settled-below}
 use Rattle.map.proofs.RunLaws.{lowestOwner, Reached, range-run}
 
 -- ---- the ranges one after another: those found, in the array's first places, and those left, which start at the next byte
@@ -99,6 +98,22 @@ module _ (spans : ℕ → Span) (known : Settled spans) where
 
 -- ---- the arrays of the entries' first bytes and ends
 
+module _ (s t : Span) (e : t ≡ settled s) where
+  settled-cases : (t ≡ s × s .low < s .high) ⊎ (t ≡ span 0 0)
+  settled-cases = go (less (s .low) (s .high))
+    where
+      go : (s .low < s .high) ⊎ (s .high ≤ s .low) → (t ≡ s × s .low < s .high) ⊎ (t ≡ span 0 0)
+      go (inl x) = inl (rw (lt-ltb (s .low) (s .high) x) at e, x)
+      go (inr x) = inr (rw (le-ltb (s .low) (s .high) x) at e)
+
+  -- one that does not start at 0 has a byte
+  settled-some : 0 < t .low → t .low < t .high
+  settled-some h =
+      ⊎-elim (λ w. rw (w .0) (w .1)) (λ w. let z : t .low ≡ 0 = ap (λ (x : Span). x .low) w in absurd (omega arith)) settled-cases
+
+  settled-below : s .high ≤ top → t .high ≤ top
+  settled-below h = ⊎-elim (λ w. rw (w .0) h) (λ w. rw w (omega arith)) settled-cases
+
 -- they hold the bytes of the entries below i
 abbrev pub Filled : List ℕ → List ℕ → List ℕ → List ℕ → ℕ → Type 0
 Filled cfgs addrs lows highs i = (k : ℕ) → k < i → spansIn lows highs k ≡ settled (entrySpan cfgs addrs k)
@@ -119,7 +134,7 @@ module _ (cfgs addrs lows highs : List ℕ) where
   pub filled-settled : Filled cfgs addrs lows highs 16 → Settled (spansIn lows highs)
   filled-settled f = record {
     some = λ k h l. settled-some (entrySpan cfgs addrs k) (spansIn lows highs k) (f k h) l;
-    below = λ k h. settled-below (entrySpan cfgs addrs k) (spansIn lows highs k) (f k h) (span-bound _ _ _);
+    below = λ k h. settled-below (entrySpan cfgs addrs k) (spansIn lows highs k) (f k h) (span-bounds _ _ _ .1);
   }
 
   pub filled-compiled : Filled cfgs addrs lows highs 16 → mapOf (painted (spansIn lows highs) 16) ≡ compiled cfgs addrs

@@ -9,9 +9,8 @@ use Rattle.pmp.specs.Rule.{isSize}
 use Rattle.pmp.proofs.RuleLaws.{size-bounds}
 use Rattle.map.specs.declared.Found.the-variants.{At}
 use Rattle.map.specs.Lookup.{findRange, rangesIn}
-use Rattle.map.specs.Query.{rangeDecides}
 use Rattle.map.proofs.LookupLaws.{found-holds}
-use Rattle.map.proofs.QueryLaws.{size-refused, beyond-query, reads-range}
+use Rattle.map.proofs.QueryLaws.{size-refused, beyond-query, found-query, unfound-query}
 use borrow.Author.Needs.{needs}
 use Rattle.map.proofs.query.Statement.{statement}
 use Rattle.map.proofs.query.Tie as tie
@@ -38,24 +37,24 @@ returns-2 c =
     ap Fault (c .fault-cause .ensures)
     ∙ sym (beyond-query (a .cfgs) (a .mode) (a .access) (a .address) (a .size) (a .map) (sized e) (omega arith))
 
+found : (c : tie.After-range) → let f = c .before .before in let a = f .before .before .before .before .args in
+    findRange (rangesIn (a .map)) (a .address) ≡ At (c .range .given .0 .0)
+found c = sym (c .before .before .find .ensures) ∙ c .range .given .1
+
 range-decides-requires : tie.Need-range-decides-requires
 range-decides-requires c κs =
-    let f = c .before .before .before in
-    let a = f .before .before .before .before .args in
-    let e : findRange (rangesIn (a .map)) (a .address) ≡ At (c .before .range .given .0 .0) = sym (f .find .ensures) ∙ c .before .range .given .1 in
-    let h = found-holds (rangesIn (a .map)) (a .address) (c .before .range .given .0 .0) e in
-    (bounds (f .before .before) .0, h .0, h .1)
+    let e = c .before .before .before .before .before in
+    let a = e .before .before .args in
+    let h = found-holds (rangesIn (a .map)) (a .address) (c .before .range .given .0 .0) (found (c .before)) in
+    (bounds e .0, h .0, h .1)
 
 returns-3 : tie.Need-returns-3
 returns-3 c =
     let r = c .before .before in
-    let f = r .before .before in
-    let e = f .before .before in
+    let e = r .before .before .before .before in
     let a = e .before .before .args in
     let b = bounds e in
-    c .range-decides .ensures
-    ∙ ap (rangeDecides (a .cfgs) (a .mode) (a .access) (a .address) (a .size)) (sym (r .range .given .1) ∙ f .find .ensures)
-    ∙ sym (reads-range (a .cfgs) (a .mode) (a .access) (a .address) (a .size) (a .map) (sized e) (omega arith))
+    found-query (a .cfgs) (a .mode) (a .access) (a .address) (a .size) (a .map) (r .range .given .0 .0) (c .range-decides .result) (sized e) (omega arith) (found r) (c .range-decides .ensures)
 
 returns-4 : tie.Need-returns-4
 returns-4 c =
@@ -63,7 +62,7 @@ returns-4 c =
     let e = f .before .before in
     let a = e .before .before .args in
     let b = bounds e in
-    rw (reads-range (a .cfgs) (a .mode) (a .access) (a .address) (a .size) (a .map) (sized e) (omega arith), ← f .find .ensures, c .enum-told .given .1)
+    unfound-query (a .cfgs) (a .mode) (a .access) (a .address) (a .size) (a .map) (sized e) (omega arith) (sym (f .find .ensures) ∙ c .enum-told .given .1)
 
 pub query-spec : {M : Type 1} → statement M
 query-spec =

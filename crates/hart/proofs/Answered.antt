@@ -1,0 +1,59 @@
+-- The byte rule grants, or faults with the cause of the access's kind, and never refuses. Assumes nothing.
+use Prim.Native.Nat.{ℕ, _/_}
+use mathlib.Core.Path.{_≡_, refl, sym, ap, _∙_}
+use mathlib.Core.Bool.{Bool, true, false, cond, false≢true}
+use mathlib.Core.List.{List}
+use mathlib.Core.Logic.{_⊎_, inl, inr, ⊎-elim}
+use lib.Dec.{leb, ltb, eqb}
+use lib.ListN.{getD}
+use Rattle.pmp.specs.declared.Mode.{Mode}
+use Rattle.pmp.specs.declared.Mode.the-variants.{User, Supervisor, Machine}
+use Rattle.pmp.specs.declared.Access.{Access}
+use Rattle.pmp.specs.declared.Decision.{Decision}
+use Rattle.pmp.specs.declared.Decision.the-variants.{Granted, Fault, Refused}
+use Rattle.pmp.specs.Number.{faultCause}
+use Rattle.pmp.specs.Search.{anyByte, everyByte}
+use Rattle.pmp.specs.Entry.{top, matches}
+use Rattle.pmp.specs.Rule.{permission, byPermission, entryDecides, noneDecides, matchDecides, lowestMatch, byteRule}
+
+abbrev pub GrantOrFault : Access → Decision → Type 0
+GrantOrFault access d = (d ≡ Granted) ⊎ (d ≡ Fault (faultCause access))
+
+either : (access : Access) (b : Bool) (x y : Decision) → GrantOrFault access x → GrantOrFault access y → GrantOrFault access (cond b x y)
+either access true x y p q = p
+either access false x y p q = q
+
+by-permission : (access : Access) (cfg : ℕ) → GrantOrFault access (byPermission access cfg)
+by-permission access cfg = either access (eqb (permission access cfg) 1) Granted (Fault (faultCause access)) (inl refl) (inr refl)
+
+by-entry : (mode : Mode) (access : Access) (cfg : ℕ) → GrantOrFault access (entryDecides mode access cfg)
+by-entry User access cfg = by-permission access cfg
+by-entry Supervisor access cfg = by-permission access cfg
+by-entry Machine access cfg = either access (eqb (cfg / 128) 0) Granted (byPermission access cfg) (inl refl) (by-permission access cfg)
+
+by-none : (mode : Mode) (access : Access) → GrantOrFault access (noneDecides mode access)
+by-none User access = inr refl
+by-none Supervisor access = inr refl
+by-none Machine access = inl refl
+
+pub rule-answers : (cfgs addrs : List ℕ) (mode : Mode) (access : Access) (address size : ℕ)
+    → GrantOrFault access (byteRule cfgs addrs mode access address size)
+unfolding byteRule
+rule-answers cfgs addrs mode access address size =
+    let i = lowestMatch cfgs addrs address size in
+    either access (anyByte (leb top) size address) (Fault (faultCause access)) (matchDecides cfgs addrs mode access address size i) (inr refl)
+    (either access (ltb i 16)
+    (cond (everyByte (matches cfgs addrs i) size address) (entryDecides mode access (getD cfgs i 0)) (Fault (faultCause access)))
+    (noneDecides mode access)
+    (either access (everyByte (matches cfgs addrs i) size address) (entryDecides mode access (getD cfgs i 0)) (Fault (faultCause access))
+    (by-entry mode access (getD cfgs i 0)) (inr refl))
+    (by-none mode access))
+
+abbrev isRefusal : Decision → Bool
+isRefusal Granted = false
+isRefusal (Fault cause) = false
+isRefusal (Refused number) = true
+
+pub unrefused : (access : Access) (d : Decision) (number : ℕ) → GrantOrFault access d → d ≡ Refused number → ⊥
+unrefused access d number g e =
+    ⊎-elim (λ p. false≢true (ap isRefusal (sym p ∙ e))) (λ p. false≢true (ap isRefusal (sym p ∙ e))) g
