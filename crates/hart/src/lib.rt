@@ -8,6 +8,7 @@ use trap::Answer;
 
 pub mod decode;
 mod query;
+mod saved;
 mod steps;
 
 // Every register of a hart as a raw number: it can hold what no hart can, and is then refused.
