@@ -29,23 +29,29 @@ shorter b x y = go (leb 1027 (length b)) refl
     go false e = rw (lt-ltb (length b) 1027 (leb-false 1027 (length b) e))
 
 -- what the writer of words answers and leaves, for a hart that can be held
-pub answered : (h : Hart) (b : List ℕ) (r : Bool) → canHold h ≡ true → r ≡ holdsText b → cond r Done (Refused 6) ≡ savedAnswer h b
+pub answered : (h : Hart) (b : List ℕ) (r : Bool) → canHold h ≡ true → holdsText b ≡ r → cond r Done (Refused 6) ≡ savedAnswer h b
 unfolding savedAnswer
-answered h b r p e = rw (p, e, shorter b (Refused 6) Done)
+answered h b r p e = rw (p, shorter b (Refused 6) Done, e)
 
 pub written : (h : Hart) (b ws x : List ℕ) → canHold h ≡ true → ws ≡ wordsOf (h .registers) (h .pmp) → x ≡ writtenTo ws b → x ≡ savedBuffer h b
 unfolding savedBuffer writtenTo
 written h b ws x p e d = rw (p, shorter b b (textFor h ++ drop 1027 b), ← e) d
 
--- what reading gives, from what was read of the text, its hart, whether that can be held, and its map
-pub restored-by : (g h : Hart) (map m : Map) (text : List ℕ) (r : Reading) (held : Bool)
-    → r ≡ readText text → h ≡ hartOf (r .words) → held ≡ canHold h → m ≡ mapFor (h .pmp)
-    → cond (r .ok) (cond held (handedBack m (effectOf h Done)) (handedBack map (refused g 5))) (handedBack map (refused g 4)) ≡ restored g map text
+-- what reading gives, from what was read of the text: where it is not in the form ..
+pub refused-form : (g : Hart) (map : Map) (text : List ℕ) (r : Reading) → r ≡ readText text → r .ok ≡ false
+    → handedBack map (refused g 4) ≡ restored g map text
+unfolding restored
+refused-form g map text r e o = rw (← e, o)
+
+-- .. and where it is, from the hart of its words, whether that can be held, and its map
+pub judged-hart : (g h : Hart) (map m : Map) (text : List ℕ) (r : Reading) (held : Bool)
+    → r ≡ readText text → r .ok ≡ true → h ≡ hartOf (r .words) → canHold h ≡ held → m ≡ mapFor (h .pmp)
+    → cond held (handedBack m (effectOf h Done)) (handedBack map (refused g 5)) ≡ restored g map text
 unfolding restored restoredWords
-restored-by g h map m text r held a b c d =
-    (λ j. cond (r .ok) (cond (c j) (handedBack (d j) (effectOf h Done)) (handedBack map (refused g 5))) (handedBack map (refused g 4)))
-    ∙ ap (λ (x : Hart). cond (r .ok) (cond (canHold x) (restoredDone x) (handedBack map (refused g 5))) (handedBack map (refused g 4))) b
-    ∙ ap (λ (x : Reading). cond (x .ok) (restoredWords g map (x .words)) (handedBack map (refused g 4))) a
+judged-hart g h map m text r held e o w c d =
+    rw (← e, o)
+    ((λ j. cond (sym c j) (handedBack (d j) (effectOf h Done)) (handedBack map (refused g 5)))
+    ∙ ap (λ (x : Hart). cond (canHold x) (restoredDone x) (handedBack map (refused g 5))) w)
 
 -- saving to a buffer of the text's length and reading it back
 pub resaved-by : (h : Hart) (map : Map) (b text : List ℕ) (s : Stepped) → Typed h → canHold h ≡ true → length b ≡ 1027

@@ -1,14 +1,14 @@
 use borrow.Author.Needs.{needs}
 use borrow.Author.Tests.{not-true, not-false}
-use mathlib.Core.Path.{_≡_, refl}
-use mathlib.Core.Bool.{cond}
+use mathlib.Core.Path.{_≡_, refl, sym, _∙_}
+use mathlib.Core.Bool.{Bool, true, false, cond}
 use Rattle.map.specs.declared.Map.{Map}
 use Rattle.trap.specs.declared.Answer.the-variants.{Done}
 use Rattle.hart.specs.declared.Hart.{Hart}
-use Rattle.hart.specs.Effects.{canHold, effectOf, refused}
+use Rattle.hart.specs.Effects.{effectOf, refused}
 use Rattle.hart.specs.Steps.{mapFor, handedBack}
-use Rattle.hart.specs.Saved.{hartOf, restored}
-use Rattle.hart.proofs.SavedLaws.{restored-by}
+use Rattle.hart.specs.Saved.{restored}
+use Rattle.hart.proofs.SavedLaws.{refused-form, judged-hart}
 use Rattle.hart.proofs.Hart.restore.Statement.{statement}
 use Rattle.hart.proofs.Hart.restore.Tie as tie
 
@@ -16,41 +16,36 @@ returns : tie.Need-returns
 returns c =
     let d = c .before .before in
     let a = d .before .before .args in
-    let r = d .read .result in
-    let h : Hart = hartOf (r .words) in
-    rw (not-true (r .ok) (c .if1 .taken)) at
-    (restored-by (a .self) h (a .map) (mapFor (h .pmp)) (a .text .now) r (canHold h) (d .read .ensures) refl refl refl)
+    refused-form (a .self) (a .map) (a .text .now) (d .read .result) (d .read .ensures) (not-true _ (c .if1 .taken))
+
+abbrev start : tie.After-can-hold → tie.Start
+start c = c .before .before .before .before .before .before .before .before
 
 -- the hart of the text's words
-abbrev read : tie.After-can-hold → Hart
-read c = record { registers = c .before .before .registers-of .result; pmp = c .before .pmp-of .result }
+abbrev found : tie.After-can-hold → Hart
+found c = record { registers = c .before .before .registers-of .result; pmp = c .before .pmp-of .result }
 
 -- what is known once that hart has been judged, with its map
-judged : (c : tie.After-can-hold) (m : Map) → m ≡ mapFor (read c .pmp)
-    → cond (c .can-hold .result)
-    (handedBack m (effectOf (read c) Done))
-    (handedBack (c .before .before .before .before .before .before .before .before .args .map) (refused (c .before .before .before .before .before .before .before .before .args .self) 5))
-    ≡ restored (c .before .before .before .before .before .before .before .before .args .self)
-    (c .before .before .before .before .before .before .before .before .args .map)
-    (c .before .before .before .before .before .before .before .before .args .text .now)
-judged c m own =
+judged : (c : tie.After-can-hold) (held : Bool) (m : Map) → c .can-hold .result ≡ held → m ≡ mapFor (found c .pmp)
+    → cond held (handedBack m (effectOf (found c) Done)) (handedBack (start c .args .map) (refused (start c .args .self) 5))
+    ≡ restored (start c .args .self) (start c .args .map) (start c .args .text .now)
+judged c held m h own =
     let p = c .before in
     let g = p .before in
     let e = g .before .before in
     let d = e .before .before in
-    let a = d .before .before .args in
-    let r = d .read .result in
-    rw (not-false (r .ok) (e .if1 .left)) at
-    (restored-by (a .self) (read c) (a .map) m (a .text .now) r (c .can-hold .result)
-    (d .read .ensures) (λ j. record { registers = g .registers-of .ensures j; pmp = p .pmp-of .ensures j }) (c .can-hold .ensures) own)
+    let a = start c .args in
+    judged-hart (a .self) (found c) (a .map) m (a .text .now) (d .read .result) held (d .read .ensures) (not-false _ (e .if1 .left))
+    (λ j. record { registers = g .registers-of .ensures j; pmp = p .pmp-of .ensures j })
+    (sym (c .can-hold .ensures) ∙ h) own
 
 returns-2 : tie.Need-returns-2
-returns-2 c = rw (not-true (c .before .can-hold .result) (c .if2 .taken)) at (judged (c .before) (mapFor (read (c .before) .pmp)) refl)
+returns-2 c = judged (c .before) false (mapFor (found (c .before) .pmp)) (not-true _ (c .if2 .taken)) refl
 
 returns-3 : tie.Need-returns-3
 returns-3 c =
     let f = c .before .before .before in
-    rw (not-false (f .before .can-hold .result) (f .if2 .left)) at (judged (f .before) (c .compile .result) (c .compile .ensures))
+    judged (f .before) true (c .compile .result) (not-false _ (f .if2 .left)) (c .compile .ensures)
 
 pub restore-spec : {M : Type 1} → statement M
 restore-spec =
