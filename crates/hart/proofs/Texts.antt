@@ -2,11 +2,12 @@
 use Prim.Native.Nat.{ℕ, _≤_}
 use mathlib.Core.Path.{_≡_, refl, sym, ap, _∙_}
 use mathlib.Core.Bool.{Bool, true, false, cond, false≢true}
-use mathlib.Core.List.{List, _++_}
+use mathlib.Core.List.{List, _∷_, _++_}
 use borrow.Author.Tests.{le-ltb}
-use lib.ListN.{length, take, drop}
+use lib.ListN.{length, take, drop, replicate}
 use lib.Seq.{take-at}
 use Rattle.lines.proofs.Back.{Words}
+use Rattle.config.specs.Config.{packed}
 use Rattle.map.specs.declared.Map.{Map}
 use Rattle.text.specs.declared.Reading.{Reading}
 use Rattle.text.specs.Text.{textOf, given, readText}
@@ -18,7 +19,7 @@ use Rattle.words.specs.Words.{elements, wordsOf}
 use Rattle.words.proofs.Back.{words-back, registers-back, pmp-back}
 use Rattle.hart.specs.declared.Hart.{Hart}
 use Rattle.hart.specs.declared.Stepped.{Stepped}
-use Rattle.hart.specs.Effects.{canHold, effectOf, refused}
+use Rattle.hart.specs.Effects.{canHold, resetHart, effectOf, refused}
 use Rattle.hart.specs.Steps.{mapFor, handedBack}
 use Rattle.hart.specs.Saved.{textFor, savedAnswer, savedBuffer, hartOf, restoredDone, restoredWords, restored}
 use Rattle.hart.specs.Texts.{Typed, SavedRestored, RestoredSaved, OneText, Lossless}
@@ -118,3 +119,8 @@ one-text f g h map m n text other d e =
 
 pub lossless : Lossless
 lossless = record { saved-restored = saved-restored; restored-saved = restored-saved; one-text = one-text }
+
+-- 01: the reset state is that text with every value 0 except mode 3, pc 1000, mstatus a00000000
+pub reset-text : textFor resetHart ≡ textOf (3 ∷ 0x1000 ∷ 0xA00000000 ∷ replicate 38 0)
+unfolding packed elements wordsOf
+reset-text = refl
