@@ -8,8 +8,12 @@ use trap::Answer;
 
 pub mod decode;
 mod query;
+mod run;
 mod saved;
 mod steps;
+
+pub use steps::is_reset;
+pub use steps::may_remap;
 
 // Every register of a hart as a raw number: it can hold what no hart can, and is then refused.
 pub struct Hart {
