@@ -3,6 +3,8 @@ pub mod Worked
 pub mod StepLaws
 pub mod RunLaws
 pub mod Kept
+pub mod Texts
+pub mod SavedLaws
 pub mod Answered
 pub mod Holds
 pub mod Faithfulness

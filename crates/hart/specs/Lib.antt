@@ -3,6 +3,7 @@ pub mod Effects
 pub mod Steps
 pub mod Queries
 pub mod Saved
+pub mod Texts
 pub mod Decode
 pub mod Runs
 pub mod Faithful

@@ -9,6 +9,7 @@ use trap::Answer;
 pub mod decode;
 mod query;
 mod run;
+mod saved;
 mod steps;
 
 pub use steps::is_reset;
