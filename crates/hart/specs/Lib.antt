@@ -6,5 +6,6 @@ pub mod Saved
 pub mod Texts
 pub mod Decode
 pub mod Runs
+pub mod Asked
 pub mod Faithful
 pub mod Worked
