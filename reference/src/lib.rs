@@ -5,6 +5,7 @@
 mod answer;
 pub mod csr;
 mod execute;
+pub mod generate;
 mod hart;
 mod hexadecimal;
 mod holdable;
@@ -12,6 +13,7 @@ mod interrupt;
 mod map;
 pub mod protection;
 mod query;
+pub mod random;
 mod record;
 mod replay;
 mod returns;
