@@ -3,6 +3,8 @@
 #![deny(unsafe_code)]
 
 mod answer;
+#[cfg(feature = "capi")]
+pub mod capi;
 pub mod csr;
 mod execute;
 pub mod generate;

@@ -1,0 +1,59 @@
+//! Compares the product with the model on random calls, and stops at the first
+//! difference.
+//!
+//! `differential [small] [seed=N] [walks=N] [steps=N] [runs=N] [queries=N]
+//! [texts=N] [calls=N]`: numbers are decimal; one walk is every CSR number in
+//! every mode by every operation.
+
+mod calls;
+mod compare;
+mod queries;
+mod report;
+mod runs;
+mod sizes;
+mod steps;
+mod texts;
+
+use std::process::ExitCode;
+use std::time::Instant;
+
+use report::Difference;
+use sizes::Sizes;
+
+fn main() -> ExitCode {
+    let sizes = match Sizes::from_arguments(std::env::args().skip(1)) {
+        Ok(sizes) => sizes,
+        Err(message) => {
+            eprintln!("differential: {message}");
+            return ExitCode::FAILURE;
+        }
+    };
+    println!("seed {}", sizes.seed);
+    let start = Instant::now();
+    match compare_all(&sizes) {
+        Ok(counts) => {
+            println!("{:.1} seconds", start.elapsed().as_secs_f64());
+            println!("{counts}: 0 differences");
+            ExitCode::SUCCESS
+        }
+        Err(difference) => {
+            println!("{difference}");
+            ExitCode::FAILURE
+        }
+    }
+}
+
+fn compare_all(sizes: &Sizes) -> Result<String, Difference> {
+    let walked = steps::walk(sizes.seed, sizes.walks)?;
+    steps::random(sizes.seed, sizes.steps)?;
+    let run_steps = runs::random(sizes.seed, sizes.runs)?;
+    queries::random(sizes.seed, sizes.queries)?;
+    texts::restored(sizes.seed, sizes.texts)?;
+    texts::saved(sizes.seed, sizes.texts)?;
+    calls::wrong(sizes.seed, sizes.calls)?;
+    Ok(format!(
+        "{walked} steps of CSR walks, {} random steps, {} runs of {run_steps} steps, \
+         {} queries, {} texts read, {} texts saved, {} wrong calls",
+        sizes.steps, sizes.runs, sizes.queries, sizes.texts, sizes.texts, sizes.calls
+    ))
+}

@@ -1,0 +1,60 @@
+//! How many comparisons to make, and from which seed.
+
+pub struct Sizes {
+    pub seed: u64,
+    pub walks: u64,
+    pub steps: u64,
+    pub runs: u64,
+    pub queries: u64,
+    pub texts: u64,
+    pub calls: u64,
+}
+
+const FULL: Sizes = Sizes {
+    seed: 1,
+    walks: 8,
+    steps: 2_000_000,
+    runs: 50_000,
+    queries: 2_000_000,
+    texts: 200_000,
+    calls: 100_000,
+};
+
+const SMALL: Sizes = Sizes {
+    seed: 1,
+    walks: 1,
+    steps: 100_000,
+    runs: 2_000,
+    queries: 100_000,
+    texts: 10_000,
+    calls: 5_000,
+};
+
+impl Sizes {
+    pub fn from_arguments(arguments: impl Iterator<Item = String>) -> Result<Sizes, String> {
+        let mut sizes = FULL;
+        for argument in arguments {
+            match argument.split_once('=') {
+                Some((name, number)) => sizes.set(name, number)?,
+                None if argument == "small" => sizes = Sizes { seed: sizes.seed, ..SMALL },
+                None => return Err(format!("{argument}: neither small nor NAME=NUMBER")),
+            }
+        }
+        Ok(sizes)
+    }
+
+    fn set(&mut self, name: &str, number: &str) -> Result<(), String> {
+        let place = match name {
+            "seed" => &mut self.seed,
+            "walks" => &mut self.walks,
+            "steps" => &mut self.steps,
+            "runs" => &mut self.runs,
+            "queries" => &mut self.queries,
+            "texts" => &mut self.texts,
+            "calls" => &mut self.calls,
+            _ => return Err(format!("{name}: no such size")),
+        };
+        *place = number.parse().map_err(|error| format!("{name}={number}: {error}"))?;
+        Ok(())
+    }
+}

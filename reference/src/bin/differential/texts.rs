@@ -1,0 +1,80 @@
+//! Texts read back and saved.
+
+use reference::random::Random;
+use reference::{HART_WORDS, Hart, MAP_WORDS, Refusal, TEXT_LENGTH, capi, generate, restore, save};
+
+use crate::compare::{Lent, map_difference};
+use crate::report::{Difference, Stage, state_difference, state_text};
+
+/// Texts whole and damaged, read into words that hold something else.
+pub fn restored(seed: u64, texts: u64) -> Result<(), Difference> {
+    Stage::new("texts read", seed, texts).run(|random, _| {
+        let text = generate::text(random);
+        let lent = other_words(random);
+        compare_restore(&text, &lent)
+            .map_err(|difference| format!("text\n{}\n{difference}", text.escape_ascii()))
+    })
+}
+
+fn other_words(random: &mut Random) -> Lent {
+    if random.once_in(2) {
+        return Lent::random(random);
+    }
+    Lent {
+        hart: std::array::from_fn::<u64, HART_WORDS, _>(|_| random.word()),
+        map: std::array::from_fn::<u64, MAP_WORDS, _>(|_| random.word()),
+    }
+}
+
+fn compare_restore(text: &[u8], lent: &Lent) -> Result<(), String> {
+    let mut found = lent.clone();
+    let call = capi::restore(text, &mut found.hart, &mut found.map);
+    let (number, expected) = match restore(text) {
+        Ok((hart, map)) => (0, Lent { hart: hart.to_words(), map: map.to_words() }),
+        Err(refusal) => (refusal.number(), lent.clone()),
+    };
+    if call != number {
+        return Err(format!("reference gives {number}, product {call}"));
+    }
+    if found.hart != expected.hart {
+        let difference = state_difference(&expected.hart, &found.hart);
+        return Err(format!("both give {call}; states differ\n{difference}"));
+    }
+    map_difference(&expected.map, &found.map, number == 0).map_or(Ok(()), Err)
+}
+
+/// States saved into buffers too short, just long enough, and longer.
+pub fn saved(seed: u64, texts: u64) -> Result<(), Difference> {
+    Stage::new("texts saved", seed, texts).run(|random, _| {
+        let hart = Lent::random(random).hart;
+        let length = buffer_length(random);
+        let filling = random.word();
+        let buffer: Vec<u8> = (0..length).map(|place| (filling >> (place % 57)) as u8).collect();
+        compare_save(&hart, &buffer)
+    })
+}
+
+fn buffer_length(random: &mut Random) -> usize {
+    match random.below(4) {
+        0 => random.index(TEXT_LENGTH + 1),
+        1 => TEXT_LENGTH - random.index(2),
+        2 => TEXT_LENGTH,
+        _ => TEXT_LENGTH + random.index(100),
+    }
+}
+
+fn compare_save(words: &[u64; HART_WORDS], buffer: &[u8]) -> Result<(), String> {
+    let (mut expected, mut found) = (buffer.to_vec(), buffer.to_vec());
+    let number = save(&Hart::from_words(words), &mut expected).map_or_else(Refusal::number, |()| 0);
+    let call = capi::save(words, &mut found);
+    if call == number && expected == found {
+        return Ok(());
+    }
+    let place = (0..buffer.len()).find(|&place| expected[place] != found[place]);
+    Err(format!(
+        "state\n{}a buffer of {} bytes: reference gives {number}, product {call}; \
+         first byte that differs: {place:?}",
+        state_text(words),
+        buffer.len()
+    ))
+}
