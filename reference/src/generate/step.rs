@@ -4,7 +4,7 @@
 use super::address::address;
 use super::entries::{configuration, pmpaddr};
 use super::state::instruction_address;
-use crate::csr::number::{MEPC, MTVEC, PMPADDR0, PMPADDR15, PMPCFG0, PMPCFG2, SEPC, STVEC};
+use crate::csr::number::*;
 use crate::csr::{LAST_NUMBER, present};
 use crate::hart::Hart;
 use crate::holdable::mask;
@@ -27,7 +27,7 @@ fn arguments(random: &mut Random, number: u64, hart: &Hart, map: &Map) -> [u64; 
     match number {
         1..=4 => {
             let number = csr_number(random);
-            [number, csr_operand(random, number)]
+            [number, operand(random, hart, number)]
         }
         5 => [cause(random), random.telling_word()],
         6 => [lines(random), random.telling_word()],
@@ -41,20 +41,59 @@ fn csr_number(random: &mut Random) -> u64 {
     match random.below(16) {
         0 => random.below(LAST_NUMBER + 1),
         1 => random.pick(&[4096, 0x1300, 0x13A0, 1 << 32 | 0x300, 1 << 63 | 0x340, u64::MAX]),
-        2..=4 => random.pick(&[PMPCFG0, PMPCFG2]),
-        5..=8 => PMPADDR0 + random.below(16),
-        _ => present_number(random),
+        2..=3 => random.pick(&[PMPCFG0, PMPCFG2]),
+        4..=7 => PMPADDR0 + random.below(16),
+        8 => present_number(random),
+        _ => random.pick(&TELLING),
     }
 }
 
+/// The registers that hold something other than protection.
+const TELLING: [u64; 26] = [
+    SSTATUS,
+    SIE,
+    STVEC,
+    SCOUNTEREN,
+    SSCRATCH,
+    SEPC,
+    SCAUSE,
+    STVAL,
+    SIP,
+    SATP,
+    MSTATUS,
+    MISA,
+    MEDELEG,
+    MIDELEG,
+    MIE,
+    MTVEC,
+    MCOUNTEREN,
+    MCOUNTINHIBIT,
+    MEPC,
+    MCAUSE,
+    MTVAL,
+    MIP,
+    MCYCLE,
+    MINSTRET,
+    CYCLE,
+    INSTRET,
+];
+
 fn present_number(random: &mut Random) -> u64 {
     loop {
-        // The high numbers are mostly counters that read 0.
-        let bound = if random.once_in(4) { 4096 } else { 0x400 };
-        let number = random.below(bound);
+        let number = random.below(LAST_NUMBER + 1);
         if present(number) {
             return number;
         }
+    }
+}
+
+/// The value that a protection register holds already, or another operand.
+fn operand(random: &mut Random, hart: &Hart, number: u64) -> u64 {
+    match number {
+        PMPCFG0 if random.once_in(8) => hart.configuration_register(0),
+        PMPCFG2 if random.once_in(8) => hart.configuration_register(8),
+        PMPADDR0..=PMPADDR15 if random.once_in(8) => hart.pmpaddr[(number - PMPADDR0) as usize],
+        _ => csr_operand(random, number),
     }
 }
 

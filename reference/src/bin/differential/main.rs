@@ -3,10 +3,12 @@
 //!
 //! `differential [small] [seed=N] [walks=N] [steps=N] [runs=N] [queries=N]
 //! [texts=N] [calls=N]`: numbers are decimal; one walk is every CSR number in
-//! every mode by every operation.
+//! every mode by every operation, every bit of every word of a state and every
+//! configuration byte, and every place of a text with telling bytes.
 
 mod calls;
 mod compare;
+mod held;
 mod queries;
 mod report;
 mod runs;
@@ -45,6 +47,8 @@ fn main() -> ExitCode {
 
 fn compare_all(sizes: &Sizes) -> Result<String, Difference> {
     let walked = steps::walk(sizes.seed, sizes.walks)?;
+    let held = held::walk(sizes.seed, sizes.walks)?;
+    let spelled = texts::walk(sizes.seed, sizes.walks)?;
     steps::random(sizes.seed, sizes.steps)?;
     let run_steps = runs::random(sizes.seed, sizes.runs)?;
     queries::random(sizes.seed, sizes.queries)?;
@@ -52,8 +56,9 @@ fn compare_all(sizes: &Sizes) -> Result<String, Difference> {
     texts::saved(sizes.seed, sizes.texts)?;
     calls::wrong(sizes.seed, sizes.calls)?;
     Ok(format!(
-        "{walked} steps of CSR walks, {} random steps, {} runs of {run_steps} steps, \
-         {} queries, {} texts read, {} texts saved, {} wrong calls",
+        "{walked} steps of CSR walks, {held} states with one word changed, {spelled} texts \
+         with one byte changed, {} random steps, {} runs of {run_steps} steps, {} queries, \
+         {} texts read, {} texts saved, {} wrong calls",
         sizes.steps, sizes.runs, sizes.queries, sizes.texts, sizes.texts, sizes.calls
     ))
 }

@@ -26,7 +26,7 @@ pub fn random_question(random: &mut Random, lent: &Lent) -> Question {
     }
 }
 
-fn compare_query(lent: &Lent, question: Question) -> Result<(), String> {
+pub fn compare_query(lent: &Lent, question: Question) -> Result<(), String> {
     let mut found = [u64::MAX, 0x5555, 0xAAAA];
     let call = capi::query(&lent.hart, &lent.map, question, &mut found);
     let expected = reference_query(lent, question);

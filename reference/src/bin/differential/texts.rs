@@ -1,18 +1,35 @@
 //! Texts read back and saved.
 
 use reference::random::Random;
-use reference::{HART_WORDS, Hart, MAP_WORDS, Refusal, TEXT_LENGTH, capi, generate, restore, save};
+use reference::{
+    HART_WORDS, Hart, MAP_WORDS, Refusal, TEXT_LENGTH, capi, form, generate, restore, save,
+};
 
 use crate::compare::{Lent, map_difference};
 use crate::report::{Difference, Stage, state_difference, state_text};
+
+/// Bytes to put anywhere: the neighbours of the digits, letters in both cases,
+/// and what ends lines or texts.
+const TELLING: &[u8] = b"0189afAFgG/:@`= \t\r\n\0ms_+\x80\xB0\xE1\xFF";
+
+/// Each place of a text with each of the telling bytes. Gives the number of
+/// texts.
+pub fn walk(seed: u64, walks: u64) -> Result<u64, Difference> {
+    let texts = walks * (TEXT_LENGTH * TELLING.len()) as u64;
+    Stage::new("texts walked", seed, texts).run(|random, case| {
+        let case = case as usize;
+        let mut text = form(&generate::holdable(random).to_words());
+        text[case / TELLING.len() % TEXT_LENGTH] = TELLING[case % TELLING.len()];
+        compare_restore(&text, &other_words(random))
+    })?;
+    Ok(texts)
+}
 
 /// Texts whole and damaged, read into words that hold something else.
 pub fn restored(seed: u64, texts: u64) -> Result<(), Difference> {
     Stage::new("texts read", seed, texts).run(|random, _| {
         let text = generate::text(random);
-        let lent = other_words(random);
-        compare_restore(&text, &lent)
-            .map_err(|difference| format!("text\n{}\n{difference}", text.escape_ascii()))
+        compare_restore(&text, &other_words(random))
     })
 }
 
@@ -26,7 +43,12 @@ fn other_words(random: &mut Random) -> Lent {
     }
 }
 
-fn compare_restore(text: &[u8], lent: &Lent) -> Result<(), String> {
+pub fn compare_restore(text: &[u8], lent: &Lent) -> Result<(), String> {
+    restore_difference(text, lent)
+        .map_err(|difference| format!("text\n{}\n{difference}", text.escape_ascii()))
+}
+
+fn restore_difference(text: &[u8], lent: &Lent) -> Result<(), String> {
     let mut found = lent.clone();
     let call = capi::restore(text, &mut found.hart, &mut found.map);
     let (number, expected) = match restore(text) {
@@ -63,7 +85,7 @@ fn buffer_length(random: &mut Random) -> usize {
     }
 }
 
-fn compare_save(words: &[u64; HART_WORDS], buffer: &[u8]) -> Result<(), String> {
+pub fn compare_save(words: &[u64; HART_WORDS], buffer: &[u8]) -> Result<(), String> {
     let (mut expected, mut found) = (buffer.to_vec(), buffer.to_vec());
     let number = save(&Hart::from_words(words), &mut expected).map_or_else(Refusal::number, |()| 0);
     let call = capi::save(words, &mut found);
