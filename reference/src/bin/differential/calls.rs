@@ -8,14 +8,15 @@ use reference::{HART_WORDS, MAP_WORDS};
 use crate::compare::Lent;
 use crate::queries::random_question;
 use crate::report::{Difference, Stage};
+use crate::sizes::Sizes;
 use crate::steps::random_step;
 
 const NO_STEPS: [u64; 6] = [18, 19, 256, 1 << 32, 1 << 32 | 4, u64::MAX];
 const NO_MODES: [u64; 6] = [2, 4, 256, 1 << 32, 1 << 32 | 3, u64::MAX];
 const NO_KINDS: [u64; 6] = [3, 4, 256, 1 << 32, 1 << 32 | 1, u64::MAX];
 
-pub fn wrong(seed: u64, calls: u64) -> Result<(), Difference> {
-    Stage::new("calls", seed, calls).run(|random, _| {
+pub fn wrong(sizes: &Sizes) -> Result<(), Difference> {
+    Stage::new("calls", sizes, sizes.calls).run(|random, _| {
         let lent = Lent::random(random);
         match random.below(3) {
             0 => wrong_step(random, &lent),

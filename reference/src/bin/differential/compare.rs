@@ -3,7 +3,7 @@
 use reference::random::Random;
 use reference::{HART_WORDS, Hart, MAP_WORDS, Map, Step, capi, generate, step};
 
-use crate::report::{answer_text, map_text, state_difference, state_text};
+use crate::report::{answer_text, map_text, show, state_difference, state_text};
 
 /// The words of a hart and its map.
 #[derive(Clone, PartialEq, Eq)]
@@ -37,6 +37,7 @@ impl Lent {
     /// The product's step, which must find all it is lent in order. The answer
     /// is lent full of other words, so that each has to be written.
     pub fn product_step(&self, words: [u64; 3]) -> Result<(Lent, [u64; 3]), String> {
+        show(|| format!("{}step {words:x?}", self.text()));
         let mut after = self.clone();
         let mut answer = [u64::MAX, 0x5555, 0xAAAA];
         match capi::step(&mut after.hart, &mut after.map, words, &mut answer) {

@@ -6,6 +6,7 @@ use reference::{HART_WORDS, TEXT_LENGTH, form, generate};
 use crate::compare::{Lent, compare_step};
 use crate::queries::{compare_query, random_question};
 use crate::report::{Difference, Stage};
+use crate::sizes::Sizes;
 use crate::steps::random_step;
 use crate::texts::{compare_restore, compare_save};
 
@@ -16,9 +17,9 @@ const BYTES: usize = 16 * 256;
 
 /// Every bit of every word turned over, and every value of every configuration
 /// byte. Gives the number of states.
-pub fn walk(seed: u64, walks: u64) -> Result<u64, Difference> {
-    let states = walks * (BITS + BYTES) as u64;
-    Stage::new("held", seed, states).run(|random, case| {
+pub fn walk(sizes: &Sizes) -> Result<u64, Difference> {
+    let states = sizes.walks * (BITS + BYTES) as u64;
+    Stage::new("held", sizes, states).run(|random, case| {
         let held = generate::holdable(random);
         let map = generate::map(random, &held).to_words();
         let mut hart = held.to_words();

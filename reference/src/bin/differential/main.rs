@@ -1,10 +1,11 @@
 //! Compares the product with the model on random calls, and stops at the first
 //! difference.
 //!
-//! `differential [small] [seed=N] [walks=N] [steps=N] [runs=N] [queries=N]
-//! [texts=N] [calls=N]`: numbers are decimal; one walk is every CSR number in
+//! `differential [small] [loud] [only=N] [seed=N] [walks=N] [steps=N] [runs=N]
+//! [queries=N] [texts=N] [calls=N]`: numbers are decimal; one walk is every CSR number in
 //! every mode by every operation, every bit of every word of a state and every
-//! configuration byte, and every place of a text with telling bytes.
+//! configuration byte, and every place of a text with telling bytes. Should the
+//! product end the program, `loud` tells the case, and `only` what it was lent.
 
 mod calls;
 mod compare;
@@ -46,15 +47,18 @@ fn main() -> ExitCode {
 }
 
 fn compare_all(sizes: &Sizes) -> Result<String, Difference> {
-    let walked = steps::walk(sizes.seed, sizes.walks)?;
-    let held = held::walk(sizes.seed, sizes.walks)?;
-    let spelled = texts::walk(sizes.seed, sizes.walks)?;
-    steps::random(sizes.seed, sizes.steps)?;
-    let run_steps = runs::random(sizes.seed, sizes.runs)?;
-    queries::random(sizes.seed, sizes.queries)?;
-    texts::restored(sizes.seed, sizes.texts)?;
-    texts::saved(sizes.seed, sizes.texts)?;
-    calls::wrong(sizes.seed, sizes.calls)?;
+    let walked = steps::walk(sizes)?;
+    let held = held::walk(sizes)?;
+    let spelled = texts::walk(sizes)?;
+    steps::random(sizes)?;
+    let run_steps = runs::random(sizes)?;
+    queries::random(sizes)?;
+    texts::restored(sizes)?;
+    texts::saved(sizes)?;
+    calls::wrong(sizes)?;
+    if let Some(case) = sizes.only {
+        return Ok(format!("case {case} alone of each stage"));
+    }
     Ok(format!(
         "{walked} steps of CSR walks, {held} states with one word changed, {spelled} texts \
          with one byte changed, {} random steps, {} runs of {run_steps} steps, {} queries, \

@@ -5,10 +5,11 @@ use reference::random::Random;
 use reference::{Access, Hart, Map, Mode, generate, query};
 
 use crate::compare::Lent;
-use crate::report::{Difference, Stage, answer_text};
+use crate::report::{Difference, Stage, answer_text, show};
+use crate::sizes::Sizes;
 
-pub fn random(seed: u64, queries: u64) -> Result<(), Difference> {
-    Stage::new("queries", seed, queries).run(|random, _| {
+pub fn random(sizes: &Sizes) -> Result<(), Difference> {
+    Stage::new("queries", sizes, sizes.queries).run(|random, _| {
         let lent = Lent::random(random);
         let question = random_question(random, &lent);
         compare_query(&lent, question)
@@ -27,6 +28,7 @@ pub fn random_question(random: &mut Random, lent: &Lent) -> Question {
 }
 
 pub fn compare_query(lent: &Lent, question: Question) -> Result<(), String> {
+    show(|| format!("{}{question:x?}", lent.text()));
     let mut found = [u64::MAX, 0x5555, 0xAAAA];
     let call = capi::query(&lent.hart, &lent.map, question, &mut found);
     let expected = reference_query(lent, question);

@@ -1,9 +1,13 @@
 //! Progress, and the account of a difference.
 
 use std::fmt::{self, Display, Formatter, Write};
+use std::ops::Range;
+use std::sync::atomic::{AtomicBool, Ordering};
 
 use reference::random::Random;
 use reference::{HART_WORDS, KEYS, MAP_WORDS, Map, NONE};
+
+use crate::sizes::Sizes;
 
 /// What was called, and where the two programs differ.
 pub struct Difference(pub String);
@@ -14,16 +18,26 @@ impl Display for Difference {
     }
 }
 
-/// Counts the cases of one stage, and tells how far it is.
-pub struct Stage {
+static SHOWING: AtomicBool = AtomicBool::new(false);
+
+/// Tells what a call is lent before it is made, where one case alone is done:
+/// a product that ends the program cannot be told of afterwards.
+pub fn show(text: impl Fn() -> String) {
+    if SHOWING.load(Ordering::Relaxed) {
+        eprintln!("{}", text());
+    }
+}
+
+/// The cases of one stage. It tells how far it is.
+pub struct Stage<'a> {
     name: &'static str,
-    seed: u64,
+    sizes: &'a Sizes,
     cases: u64,
 }
 
-impl Stage {
-    pub fn new(name: &'static str, seed: u64, cases: u64) -> Stage {
-        Stage { name, seed, cases }
+impl<'a> Stage<'a> {
+    pub fn new(name: &'static str, sizes: &'a Sizes, cases: u64) -> Stage<'a> {
+        Stage { name, sizes, cases }
     }
 
     /// Does every case, each with random numbers of its own, so that a case
@@ -32,11 +46,9 @@ impl Stage {
         &self,
         mut case: impl FnMut(&mut Random, u64) -> Result<(), String>,
     ) -> Result<(), Difference> {
-        let start = self
-            .name
-            .bytes()
-            .fold(self.seed, |seed, byte| Random::new(seed ^ u64::from(byte)).word());
-        for number in 0..self.cases {
+        let start = self.start();
+        SHOWING.store(self.sizes.only.is_some(), Ordering::Relaxed);
+        for number in self.numbers() {
             self.tell(number);
             let mut random = Random::new(start.wrapping_add(number));
             case(&mut random, number)
@@ -46,8 +58,20 @@ impl Stage {
         Ok(())
     }
 
+    fn start(&self) -> u64 {
+        let mix = |seed, byte| Random::new(seed ^ u64::from(byte)).word();
+        self.name.bytes().fold(self.sizes.seed, mix)
+    }
+
+    fn numbers(&self) -> Range<u64> {
+        match self.sizes.only {
+            None => 0..self.cases,
+            Some(number) => number..self.cases.min(number.saturating_add(1)),
+        }
+    }
+
     fn tell(&self, number: u64) {
-        if number.is_multiple_of((self.cases / 4).max(1)) {
+        if self.sizes.loud || number.is_multiple_of((self.cases / 4).max(1)) {
             eprintln!("{}: {number} of {}", self.name, self.cases);
         }
     }

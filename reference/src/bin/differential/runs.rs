@@ -4,13 +4,14 @@ use reference::random::Random;
 use reference::{Hart, Map, capi};
 
 use crate::compare::{Lent, map_difference, result_difference};
-use crate::report::{Difference, Stage};
+use crate::report::{Difference, Stage, show};
+use crate::sizes::Sizes;
 use crate::steps::random_step;
 
 /// Gives the number of steps in all runs together.
-pub fn random(seed: u64, runs: u64) -> Result<u64, Difference> {
+pub fn random(sizes: &Sizes) -> Result<u64, Difference> {
     let mut steps = 0;
-    Stage::new("runs", seed, runs).run(|random, _| {
+    Stage::new("runs", sizes, sizes.runs).run(|random, _| {
         let start = random_start(random);
         let length = if random.once_in(50) { random.below(1000) } else { random.below(60) };
         steps += length;
@@ -43,6 +44,7 @@ fn compare_run(random: &mut Random, start: &Lent, length: u64) -> Result<(), Str
         answers.extend(after.1);
         (expected, found) = (after.0, product.0);
     }
+    show(|| tell(start, &steps, "run"));
     let mut left = start.clone();
     let mut given = vec![u64::MAX; answers.len()];
     let call = capi::run(&mut left.hart, &mut left.map, &steps, &mut given);

@@ -1,4 +1,4 @@
-//! How many comparisons to make, and from which seed.
+//! How many comparisons to make, from which seed, and how loudly.
 
 pub struct Sizes {
     pub seed: u64,
@@ -8,6 +8,10 @@ pub struct Sizes {
     pub queries: u64,
     pub texts: u64,
     pub calls: u64,
+    /// Tell every case before it is done.
+    pub loud: bool,
+    /// Do this one case of each stage, and tell what is lent to each call.
+    pub only: Option<u64>,
 }
 
 const FULL: Sizes = Sizes {
@@ -18,6 +22,8 @@ const FULL: Sizes = Sizes {
     queries: 2_000_000,
     texts: 200_000,
     calls: 100_000,
+    loud: false,
+    only: None,
 };
 
 const SMALL: Sizes = Sizes {
@@ -28,6 +34,7 @@ const SMALL: Sizes = Sizes {
     queries: 100_000,
     texts: 10_000,
     calls: 5_000,
+    ..FULL
 };
 
 impl Sizes {
@@ -36,11 +43,17 @@ impl Sizes {
         for argument in arguments {
             match argument.split_once('=') {
                 Some((name, number)) => sizes.set(name, number)?,
-                None if argument == "small" => sizes = Sizes { seed: sizes.seed, ..SMALL },
-                None => return Err(format!("{argument}: neither small nor NAME=NUMBER")),
+                None if argument == "small" => sizes.make_small(),
+                None if argument == "loud" => sizes.loud = true,
+                None => return Err(format!("{argument}: not small, loud or NAME=NUMBER")),
             }
         }
         Ok(sizes)
+    }
+
+    fn make_small(&mut self) {
+        let Sizes { seed, loud, only, .. } = *self;
+        *self = Sizes { seed, loud, only, ..SMALL };
     }
 
     fn set(&mut self, name: &str, number: &str) -> Result<(), String> {
@@ -52,6 +65,7 @@ impl Sizes {
             "queries" => &mut self.queries,
             "texts" => &mut self.texts,
             "calls" => &mut self.calls,
+            "only" => self.only.insert(0),
             _ => return Err(format!("{name}: no such size")),
         };
         *place = number.parse().map_err(|error| format!("{name}={number}: {error}"))?;

@@ -5,6 +5,7 @@ use reference::{Hart, MACHINE, Map, SUPERVISOR, USER, generate};
 
 use crate::compare::{Lent, compare_step};
 use crate::report::{Difference, Stage};
+use crate::sizes::Sizes;
 
 const MODES: [u64; 3] = [USER, SUPERVISOR, MACHINE];
 const NUMBERS: u64 = 4096;
@@ -13,9 +14,9 @@ const CSR_STEPS: u64 = 4;
 
 /// Every CSR number in every mode by every operation, each from a state of its
 /// own. Gives the number of steps.
-pub fn walk(seed: u64, walks: u64) -> Result<u64, Difference> {
-    let steps = walks * NUMBERS * 3 * CSR_STEPS;
-    Stage::new("walk", seed, steps).run(|random, case| {
+pub fn walk(sizes: &Sizes) -> Result<u64, Difference> {
+    let steps = sizes.walks * NUMBERS * 3 * CSR_STEPS;
+    Stage::new("walk", sizes, steps).run(|random, case| {
         let mode = MODES[(case % 3) as usize];
         let operation = 1 + case / 3 % CSR_STEPS;
         let number = case / (3 * CSR_STEPS) % NUMBERS;
@@ -28,8 +29,8 @@ pub fn walk(seed: u64, walks: u64) -> Result<u64, Difference> {
 }
 
 /// Any steps from any states, with any maps.
-pub fn random(seed: u64, steps: u64) -> Result<(), Difference> {
-    Stage::new("steps", seed, steps).run(|random, _| {
+pub fn random(sizes: &Sizes) -> Result<(), Difference> {
+    Stage::new("steps", sizes, sizes.steps).run(|random, _| {
         let lent = Lent::random(random);
         compare_step(&lent, random_step(random, &lent))
     })

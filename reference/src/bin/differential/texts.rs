@@ -6,7 +6,8 @@ use reference::{
 };
 
 use crate::compare::{Lent, map_difference};
-use crate::report::{Difference, Stage, state_difference, state_text};
+use crate::report::{Difference, Stage, show, state_difference, state_text};
+use crate::sizes::Sizes;
 
 /// Bytes to put anywhere: the neighbours of the digits, letters in both cases,
 /// and what ends lines or texts.
@@ -14,9 +15,9 @@ const TELLING: &[u8] = b"0189afAFgG/:@`= \t\r\n\0ms_+\x80\xB0\xE1\xFF";
 
 /// Each place of a text with each of the telling bytes. Gives the number of
 /// texts.
-pub fn walk(seed: u64, walks: u64) -> Result<u64, Difference> {
-    let texts = walks * (TEXT_LENGTH * TELLING.len()) as u64;
-    Stage::new("texts walked", seed, texts).run(|random, case| {
+pub fn walk(sizes: &Sizes) -> Result<u64, Difference> {
+    let texts = sizes.walks * (TEXT_LENGTH * TELLING.len()) as u64;
+    Stage::new("texts walked", sizes, texts).run(|random, case| {
         let case = case as usize;
         let mut text = form(&generate::holdable(random).to_words());
         text[case / TELLING.len() % TEXT_LENGTH] = TELLING[case % TELLING.len()];
@@ -26,8 +27,8 @@ pub fn walk(seed: u64, walks: u64) -> Result<u64, Difference> {
 }
 
 /// Texts whole and damaged, read into words that hold something else.
-pub fn restored(seed: u64, texts: u64) -> Result<(), Difference> {
-    Stage::new("texts read", seed, texts).run(|random, _| {
+pub fn restored(sizes: &Sizes) -> Result<(), Difference> {
+    Stage::new("texts read", sizes, sizes.texts).run(|random, _| {
         let text = generate::text(random);
         compare_restore(&text, &other_words(random))
     })
@@ -44,6 +45,7 @@ fn other_words(random: &mut Random) -> Lent {
 }
 
 pub fn compare_restore(text: &[u8], lent: &Lent) -> Result<(), String> {
+    show(|| format!("text\n{}", text.escape_ascii()));
     restore_difference(text, lent)
         .map_err(|difference| format!("text\n{}\n{difference}", text.escape_ascii()))
 }
@@ -66,8 +68,8 @@ fn restore_difference(text: &[u8], lent: &Lent) -> Result<(), String> {
 }
 
 /// States saved into buffers too short, just long enough, and longer.
-pub fn saved(seed: u64, texts: u64) -> Result<(), Difference> {
-    Stage::new("texts saved", seed, texts).run(|random, _| {
+pub fn saved(sizes: &Sizes) -> Result<(), Difference> {
+    Stage::new("texts saved", sizes, sizes.texts).run(|random, _| {
         let hart = Lent::random(random).hart;
         let length = buffer_length(random);
         let filling = random.word();
@@ -86,6 +88,7 @@ fn buffer_length(random: &mut Random) -> usize {
 }
 
 pub fn compare_save(words: &[u64; HART_WORDS], buffer: &[u8]) -> Result<(), String> {
+    show(|| format!("saving\n{}into {} bytes", state_text(words), buffer.len()));
     let (mut expected, mut found) = (buffer.to_vec(), buffer.to_vec());
     let number = save(&Hart::from_words(words), &mut expected).map_or_else(Refusal::number, |()| 0);
     let call = capi::save(words, &mut found);
