@@ -1,6 +1,6 @@
 -- 01, "Registers and access to them": what a read gives.
 use Prim.Native.Nat.{ℕ, _-_, _/_, _%_}
-use mathlib.Core.Bool.{Bool, cond}
+use mathlib.Core.Bool.{Bool, cond, _||_}
 use lib.Bits.{bitAnd, bitOr}
 use lib.Dec.{eqb}
 use lib.ListN.{getD, take, drop}
@@ -62,7 +62,7 @@ pmpShown p n =
 
 -- a number of the protection registers
 abbrev pub isPmp : ℕ → Bool
-isPmp n = between 0x3A0 0x3BF n
+isPmp n = eqb n 0x3A0 || (eqb n 0x3A2 || between 0x3B0 0x3BF n)
 
 -- the register's value, by its number: bits 11:8 tell the group
 unfoldable pub shown : State → ℕ → ℕ

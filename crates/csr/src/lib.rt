@@ -2,6 +2,14 @@
 use registers::Pmp;
 use registers::Registers;
 
+mod permit;
+mod show;
+mod store;
+
+pub use permit::is_illegal;
+pub use show::read;
+pub use store::operate;
+
 // What a CSR step does. `Read` is no write attempt; the other three are, even with operand 0.
 pub enum Operation {
     Write,
