@@ -28,7 +28,7 @@ use Rattle.trap.specs.Interrupt.{takeable, firstOf, priority, takenBy, i
 use Rattle.trap.specs.Return.{returned, mayReturn, returnStep, mayWait, nextPc, waited}
 use Rattle.trap.specs.Time.{raiseStep, linesStep, advanced, elapsed}
 use Rattle.trap.proofs.First.{chosen}
-use Rattle.trap.proofs.Status.{entered-status-held, returned-status-held, previous-mode-held}
+use Rattle.trap.proofs.Status.{entered-status-holdable, returned-status-holdable, previous-mode-holdable}
 
 abbrev pub Holdable : Outcome → Type 0
 Holdable o = registersHoldable (o .registers) ≡ true
@@ -77,7 +77,7 @@ entered-holdable level trap tval r p cause =
     let k = held r p in
     let l = level-held (levelOf level r) (level-of-held level r p) in
     level-kept _
-    (flow-kept r p _ _ _ (level-mode level) (handler-aligned (levelOf level r .tvec) trap) (entered-status-held level (r .mode) (r .mstatus) (k .mode) (k .mstatus)))
+    (flow-kept r p _ _ _ (level-mode level) (handler-aligned (levelOf level r .tvec) trap) (entered-status-holdable level (r .mode) (r .mstatus) (k .mode) (k .mstatus)))
     level _ (level-hold (trapRecorded (levelOf level r) (r .pc) trap tval) (record { tvec = l .tvec; counteren = l .counteren; epc = k .pc; cause = cause }))
 
 -- ---- the steps
@@ -116,7 +116,7 @@ module _ (r : Registers) (p : registersHoldable r ≡ true) where
       let k = held r p in
       let l = level-held (levelOf level r) (level-of-held level r p) in
       by-test Holdable (mayReturn level r) _ _
-      (λ t. flow-kept r p _ _ _ (previous-mode-held level (r .mstatus) (k .mstatus)) (l .epc) (returned-status-held level (r .mstatus) (k .mstatus)))
+      (λ t. flow-kept r p _ _ _ (previous-mode-holdable level (r .mstatus) (k .mstatus)) (l .epc) (returned-status-holdable level (r .mstatus) (k .mstatus)))
       (λ t. illegal-instruction-holdable)
 
   -- a step that only moves pc
