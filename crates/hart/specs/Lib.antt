@@ -1,6 +1,7 @@
 -- The definitions that the contracts cite.
 pub mod Effects
 pub mod Steps
+pub mod Refusals
 pub mod Queries
 pub mod Saved
 pub mod Texts
