@@ -131,7 +131,7 @@ module _ (start : Mapped) (sound : Sound start) (steps : List Step) where
       record {
         state = ap (λ (l : Mapped). l .hart) left;
         lawful =
-          subst (IsMap (cfgsAfter start steps) (addrsAfter start steps)) (sym ranges-left) (is-map (cfgsAfter start steps) (addrsAfter start steps));
+            subst (IsMap (cfgsAfter start steps) (addrsAfter start steps)) (sym ranges-left) (is-map (cfgsAfter start steps) (addrsAfter start steps));
         ranges = ranges-left;
         count =
             subst (λ (l : Mapped). l .map .count ≤ 33) (sym left) (compiled-count (cfgsAfter start steps) (addrsAfter start steps));

@@ -8,4 +8,5 @@ pub mod SavedLaws
 pub mod Answered
 pub mod RefusalLaws
 pub mod Holds
+pub mod StepKeeping
 pub mod Faithfulness

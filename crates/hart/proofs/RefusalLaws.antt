@@ -177,5 +177,5 @@ pub refusal-table : RefusalTable
 refusal-table =
     record {
       given = λ h map s. step-refuses h map s .0;
-      unchanged = λ h map s z. step-refuses h map s .1 z
+      unchanged = λ h map s z. step-refuses h map s .1 z;
     }

@@ -2,6 +2,7 @@
 pub mod Effects
 pub mod Steps
 pub mod Refusals
+pub mod Keeps
 pub mod Queries
 pub mod Saved
 pub mod Texts
