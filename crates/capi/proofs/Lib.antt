@@ -1,0 +1,5 @@
+-- The laws that the proofs cite.
+pub mod MapWords
+pub mod SliceLaws
+pub mod CallLaws
+pub mod QueryLaws
