@@ -3,3 +3,6 @@ pub mod MapWords
 pub mod SliceLaws
 pub mod CallLaws
 pub mod QueryLaws
+pub mod SaveLaws
+pub mod Exceptions
+pub mod TurnLaws

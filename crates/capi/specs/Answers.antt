@@ -16,12 +16,3 @@ abbrev pub decisionWords : Decision → List ℕ
 decisionWords Granted = 3 ∷ 0 ∷ 0 ∷ []
 decisionWords (Fault cause) = 6 ∷ cause ∷ 0 ∷ []
 decisionWords (Refused number) = 5 ∷ number ∷ 0 ∷ []
-
--- what saving and restoring give back: 0, or the refusal's number
-abbrev pub refusalNumber : Answer → ℕ
-refusalNumber (Answer.Refused number) = number
-refusalNumber Answer.Done = 0
-refusalNumber (Answer.DoneValue value) = 0
-refusalNumber (Answer.DoneFlag flag) = 0
-refusalNumber Answer.Granted = 0
-refusalNumber (Answer.Trapped trap level) = 0

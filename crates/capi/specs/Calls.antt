@@ -21,10 +21,11 @@ use Rattle.hart.specs.declared.Decoded.the-variants.{Formed, Nothing}
 use Rattle.hart.specs.Steps.{stepped}
 use Rattle.hart.specs.Queries.{queryAnswer}
 use Rattle.hart.specs.Saved.{hartOf, savedAnswer, savedBuffer, restored}
+use Rattle.hart.specs.Asked.{refusalOf}
 use Rattle.hart.specs.Decode.{decoded, stepsOf}
 use Rattle.hart.specs.Runs.{leftBy}
 use Rattle.capi.specs.MapWords.{mapOfWords, mapWords}
-use Rattle.capi.specs.Answers.{answerWords, decisionWords, refusalNumber}
+use Rattle.capi.specs.Answers.{answerWords, decisionWords}
 
 -- a hart as 41 words in the order of the saved text
 abbrev pub hartWords : Hart → List ℕ
@@ -95,10 +96,14 @@ runCall hart map steps answers =
 abbrev pub accessOf : ℕ → Access
 accessOf kind = cond (eqb kind 0) Fetch (cond (eqb kind 1) Load Store)
 
+-- a map with no range
+abbrev pub emptyMap : Map
+emptyMap = record { count = 0; ranges = replicate 33 (range 0 0 0) }
+
 -- a map with one range or none: a query on it answers as on the map in which the range was found
 abbrev pub mapWith : Found → Map
 mapWith (At r) = record { count = 1; ranges = replicate 33 r }
-mapWith Found.Nothing = record { count = 0; ranges = replicate 33 (range 0 0 0) }
+mapWith Found.Nothing = emptyMap
 
 -- the slices fit; mode is 0, 1 or 3 and kind 0, 1 or 2
 abbrev pub queryable : List ℕ → List ℕ → ℕ → ℕ → List ℕ → Bool
@@ -115,23 +120,27 @@ queryAnswered hart map mode kind address size answer =
 
 -- ---- the saved text
 
--- what a call gives whose hart or map has another length: the number of no refusal
+-- what a call gives where the hart or the map has another length: no refusal has this number
 abbrev pub misfit : ℕ
 misfit = 2 ^ 64 - 1
 
 -- 0, or refusal 3, then 6
 unfoldable pub saveResult : List ℕ → List ℕ → ℕ
-saveResult hart text = cond (eqb (length hart) 41) (refusalNumber (savedAnswer (hartOf hart) text)) misfit
+saveResult hart text = cond (eqb (length hart) 41) (refusalOf (savedAnswer (hartOf hart) text)) misfit
 
 unfoldable pub savedText : List ℕ → List ℕ → List ℕ
 savedText hart text = cond (eqb (length hart) 41) (savedBuffer (hartOf hart) text) text
 
-abbrev pub restoredWords : Stepped → Left
-restoredWords s = record { result = refusalNumber (s .answer); hart = hartWords (s .hart); map = mapWords (s .map); answers = [] }
+-- what reading a text back leaves
+abbrev pub readBack : List ℕ → List ℕ → List ℕ → Stepped
+readBack text hart map = restored (hartOf hart) (mapOfWords map) text
 
 -- 0, or refusal 4, then 5
-unfoldable pub restoreCall : List ℕ → List ℕ → List ℕ → Left
-restoreCall text hart map =
-    cond (fits hart map)
-    (restoredWords (restored (hartOf hart) (mapOfWords map) text))
-    (record { result = misfit; hart = hart; map = map; answers = [] })
+unfoldable pub restoreResult : List ℕ → List ℕ → List ℕ → ℕ
+restoreResult text hart map = cond (fits hart map) (refusalOf (readBack text hart map .answer)) misfit
+
+unfoldable pub restoredHart : List ℕ → List ℕ → List ℕ → List ℕ
+restoredHart text hart map = cond (fits hart map) (hartWords (readBack text hart map .hart)) hart
+
+unfoldable pub restoredMap : List ℕ → List ℕ → List ℕ → List ℕ
+restoredMap text hart map = cond (fits hart map) (mapWords (readBack text hart map .map)) map

@@ -2,3 +2,4 @@
 pub mod MapWords
 pub mod Answers
 pub mod Calls
+pub mod Turns

@@ -1,13 +1,15 @@
 // The interface for C: harts, maps, steps and answers as words. A call whose slices have another length changes nothing.
 mod answers;
 mod query;
+mod restore;
+mod run;
 mod slices;
 
 ghost use mathlib.Core.Path.{_≡_};
 ghost use mathlib.Core.Bool.{_&&_};
 ghost use lib.Dec.{eqb, leb};
 ghost use Rattle.registers.specs.Hold.{isMode};
-ghost use Rattle.capi.specs.Calls.{queryResult, queryAnswered};
+ghost use Rattle.capi.specs.Calls.{queryResult, queryAnswered, saveResult, savedText, restoreResult, restoredHart, restoredMap};
 
 fn fit(hart: usize, map: usize) -> bool
     ensures { λ r. ⌜ r ≡ (eqb hart 41 && eqb map 100) ⌝ }
@@ -42,4 +44,40 @@ pub extern "C" fn tegrwyllt_query(
     let words = answers::decision_words(decision);
     slices::copy(&words, answer);
     1
+}
+
+// What a call gives where the hart or the map has another length: no refusal has this number.
+const MISFIT: u64 = 0xFFFFFFFFFFFFFFFF;
+
+// Saves a hart to the front of a buffer. 0, or the number of the refusal, 3 before 6.
+#[no_mangle]
+pub extern "C" fn tegrwyllt_save(hart: &[u64], text: &mut [u8]) -> u64
+    ensures { λ r. ⌜ r ≡ saveResult (now (hart .entry)) (now (text .entry)) ⌝ }
+    ensures { λ _. ⌜ now (text .exit) ≡ savedText (now (hart .entry)) (now (text .entry)) ⌝ }
+{
+    if hart.len() != 41 {
+        return MISFIT;
+    }
+    let given = slices::load(hart);
+    hart::refusal_of(given.save(text))
+}
+
+// Reads a text back as a hart and its map. 0, or the number of the refusal, 4 before 5; then hart and map are left as they were.
+#[no_mangle]
+pub extern "C" fn tegrwyllt_restore(text: &[u8], hart: &mut [u64], map: &mut [u64]) -> u64
+    ensures { λ r. ⌜ r ≡ restoreResult (now (text .entry)) (now (hart .entry)) (now (map .entry)) ⌝ }
+    ensures { λ _. ⌜ now (hart .exit) ≡ restoredHart (now (text .entry)) (now (hart .entry)) (now (map .entry)) ⌝ }
+    ensures { λ _. ⌜ now (map .exit) ≡ restoredMap (now (text .entry)) (now (hart .entry)) (now (map .entry)) ⌝ }
+{
+    if !fit(hart.len(), map.len()) {
+        return MISFIT;
+    }
+    let read = restore::read(text, hart);
+    let answer = read.answer;
+    let refusal = hart::refusal_of(answer);
+    if refusal != 0 {
+        return refusal;
+    }
+    restore::write(read, hart, map);
+    0
 }

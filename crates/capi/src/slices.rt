@@ -1,13 +1,15 @@
 // Harts and maps in slices of words.
 use hart::Hart;
 use map::Found;
+use map::Map;
 use map::Range;
 ghost use mathlib.Core.Path.{_≡_};
 ghost use Prim.Native.Nat.{min};
 ghost use lib.ListN.{length};
 ghost use Rattle.map.specs.Lookup.{findRange, rangesIn};
 ghost use Rattle.hart.specs.Saved.{hartOf};
-ghost use Rattle.capi.specs.MapWords.{mapOfWords};
+ghost use Rattle.capi.specs.MapWords.{mapOfWords, mapWords};
+ghost use Rattle.capi.specs.Calls.{hartWords};
 
 // Copies words from one slice to another of the same length.
 pub(crate) fn copy(from: &[u64], to: &mut [u64])
@@ -31,6 +33,35 @@ pub(crate) fn load(words: &[u64]) -> Hart
     let registers = words::registers_of(w);
     let pmp = words::pmp_of(w);
     Hart { registers, pmp }
+}
+
+// Writes a hart as 41 words.
+pub(crate) fn store(hart: Hart, words: &mut [u64])
+    requires { ⌜ length (now words) ≡ 41 ⌝ }
+    ensures { λ _. ⌜ now (words .exit) ≡ hartWords hart ⌝ }
+{
+    let registers = hart.registers;
+    let pmp = hart.pmp;
+    let w = words::words_of(registers, pmp);
+    copy(&w, words);
+}
+
+// Writes a map as 100 words.
+pub(crate) fn store_map(map: Map, words: &mut [u64])
+    requires { ⌜ length (now words) ≡ 100 ⌝ }
+    ensures { λ _. ⌜ now (words .exit) ≡ mapWords map ⌝ }
+{
+    words[0] = map.count;
+    let mut k: usize = 0;
+    let mut at: usize = 1;
+    while k < 33 {
+        let range = map.ranges[k];
+        words[at] = range.first;
+        words[at + 1] = range.last;
+        words[at + 2] = range.owner;
+        k += 1;
+        at += 3;
+    }
 }
 
 // The number of ranges by which a map is read.
