@@ -6,3 +6,4 @@ pub mod QueryLaws
 pub mod SaveLaws
 pub mod Exceptions
 pub mod TurnLaws
+pub mod RunLaws

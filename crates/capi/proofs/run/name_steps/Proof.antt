@@ -1,45 +1,34 @@
+-- `capi::run::name_steps` meets its contract: the words from i on decide what is left to decide. Assumes nothing.
+use Prim.Native.Nat.{_-_, _≤_}
+use mathlib.Core.Path.{_≡_, refl, sym, _∙_}
+use mathlib.Core.Bool.{_&&_}
+use lib.ListN.{length, drop}
+use native.Mathlib.Omega.{arith}
+use borrow.Author.Needs.{needs}
+use Rattle.capi.specs.Calls.{nameSteps}
+use Rattle.capi.proofs.RunLaws.{named-next, named-end}
 use Rattle.capi.proofs.run.name_steps.Statement.{statement}
 use Rattle.capi.proofs.run.name_steps.Tie as tie
-use Rattle.capi.proofs.run.name_steps.Reads as reads
-use Rattle.capi.proofs.run.name_steps.Lts as lts
 
 abbrev Inv-loop : tie.InvT-loop
-Inv-loop steps named₀ i₀ named i = ?
+Inv-loop steps named₀ i₀ named i = (i ≤ length steps) × ((named && nameSteps (drop i steps)) ≡ nameSteps steps)
 
 abbrev μ-loop : tie.MeasureT-loop
-μ-loop steps named₀ i₀ named i = ?
+μ-loop steps named₀ i₀ named i = length steps - i
 
--- src/run.rt:94:5
 loop-holds : tie.Need-loop-holds Inv-loop μ-loop
-loop-holds c = ?
+loop-holds c = (search needs, refl)
 
--- src/run.rt:94:16
-sub-loop : tie.Need-sub-loop Inv-loop μ-loop
-sub-loop c = ?
-
--- src/run.rt:95:26
-mul-named : tie.Need-mul-named Inv-loop μ-loop
-mul-named c = ?
-
--- src/run.rt:95:26
-shared-slice-read-named : tie.Need-shared-slice-read-named Inv-loop μ-loop
-shared-slice-read-named c = ?
-
--- src/run.rt:96:9
-add-i : tie.Need-add-i Inv-loop μ-loop
-add-i c = ?
-
--- src/run.rt:94:5
-loop-less : tie.Need-loop-less Inv-loop μ-loop
-loop-less c = ?
-
--- src/run.rt:94:5
 loop-again : tie.Need-loop-again Inv-loop μ-loop
-loop-again c = ?
+loop-again c =
+    let i = c .before in
+    let l = i .before .loop in
+    (omega arith, sym (named-next (i .before .before .args .steps .now) (l .i) (l .named) (i .loop-test .taken)) ∙ l .inv .1)
 
--- src/run.rt:89:1
 returns : tie.Need-returns Inv-loop μ-loop
-returns c = ?
+returns c =
+    let l = c .before .loop in
+    sym (named-end (c .before .before .args .steps .now) (l .i) (l .named) (l .inv .0) (omega arith)) ∙ l .inv .1
 
 pub name-steps-spec : {M : Type 1} → statement M
 name-steps-spec =
@@ -48,10 +37,10 @@ name-steps-spec =
     Inv-loop
     μ-loop
     loop-holds
-    sub-loop
-    mul-named
-    shared-slice-read-named
-    add-i
-    loop-less
+    (λ c. search needs)
+    (λ c. search needs)
+    (λ c. search needs)
+    (λ c. search needs)
+    (λ c. search needs)
     loop-again
     returns)

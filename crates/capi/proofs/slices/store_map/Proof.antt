@@ -1,85 +1,42 @@
+-- `capi::slices::store_map` meets its contract: the words up to a range's place are the map's. Assumes nothing.
+use Prim.Native.Nat.{_+_, _*_, _-_, _≤_}
+use mathlib.Core.Path.{_≡_}
+use mathlib.Core.List.{_++_}
+use lib.ListN.{length, take, drop, length-set}
+use native.Mathlib.Omega.{arith}
+use borrow.Author.Needs.{needs}
+use Rattle.map.proofs.LookupLaws.{unmapped}
+use Rattle.capi.specs.MapWords.{rangeWords, mapWords}
+use Rattle.capi.proofs.SliceLaws.{map-start, map-next, map-end}
 use Rattle.capi.proofs.slices.store_map.Statement.{statement}
 use Rattle.capi.proofs.slices.store_map.Tie as tie
-use Rattle.capi.proofs.slices.store_map.Reads as reads
-use Rattle.capi.proofs.slices.store_map.Lts as lts
 
 abbrev Inv-loop : tie.InvT-loop
-Inv-loop words₀ map k₀ at₀ words k at = ?
+Inv-loop words₀ map k₀ at₀ words k at =
+    (k ≤ 33) × (at ≡ 3 * k + 1) × (length words ≡ 100) × (length (map .ranges) ≡ 33)
+    × (take at words ++ rangeWords (drop k (map .ranges)) ≡ mapWords map)
 
 abbrev μ-loop : tie.MeasureT-loop
-μ-loop words₀ map k₀ at₀ words k at = ?
+μ-loop words₀ map k₀ at₀ words k at = 33 - k
 
--- src/slices.rt:54:5
-slice-write-words : tie.Need-slice-write-words Inv-loop μ-loop
-slice-write-words c = ?
-
--- src/slices.rt:57:5
 loop-holds : tie.Need-loop-holds Inv-loop μ-loop
-loop-holds c = ?
+loop-holds c =
+    let full : length (c .args .t1 .ranges) ≡ 33 = search (needs, unmapped) in
+    (search needs, search needs, search needs, full, map-start (c .args .t1) full (c .args .words .now) (search needs))
 
--- src/slices.rt:58:21
-mul-range : tie.Need-mul-range Inv-loop μ-loop
-mul-range c = ?
-
--- src/slices.rt:58:21
-element-copy-out-range : tie.Need-element-copy-out-range Inv-loop μ-loop
-element-copy-out-range c = ?
-
--- src/slices.rt:59:9
-mul-words : tie.Need-mul-words Inv-loop μ-loop
-mul-words c = ?
-
--- src/slices.rt:59:9
-slice-write-words-2 : tie.Need-slice-write-words-2 Inv-loop μ-loop
-slice-write-words-2 c = ?
-
--- src/slices.rt:60:15
-add-words : tie.Need-add-words Inv-loop μ-loop
-add-words c = ?
-
--- src/slices.rt:60:9
-mul-words-2 : tie.Need-mul-words-2 Inv-loop μ-loop
-mul-words-2 c = ?
-
--- src/slices.rt:60:9
-slice-write-words-3 : tie.Need-slice-write-words-3 Inv-loop μ-loop
-slice-write-words-3 c = ?
-
--- src/slices.rt:61:15
-add-words-2 : tie.Need-add-words-2 Inv-loop μ-loop
-add-words-2 c = ?
-
--- src/slices.rt:61:9
-mul-words-3 : tie.Need-mul-words-3 Inv-loop μ-loop
-mul-words-3 c = ?
-
--- src/slices.rt:61:9
-slice-write-words-4 : tie.Need-slice-write-words-4 Inv-loop μ-loop
-slice-write-words-4 c = ?
-
--- src/slices.rt:62:9
-add-k : tie.Need-add-k Inv-loop μ-loop
-add-k c = ?
-
--- src/slices.rt:63:9
-add-at : tie.Need-add-at Inv-loop μ-loop
-add-at c = ?
-
--- src/slices.rt:57:5
-loop-less : tie.Need-loop-less Inv-loop μ-loop
-loop-less c = ?
-
--- src/slices.rt:57:5
 loop-again : tie.Need-loop-again Inv-loop μ-loop
-loop-again c = ?
+loop-again c =
+    let i = c .before in
+    let l = i .before .loop in
+    let a = i .before .before .args in
+    (search needs, search needs, simp length-set (l .inv .2), l .inv .3,
+    map-next (a .t1) (l .inv .3) (l .words) (l .k) (l .at) (i .loop-test .taken) (l .inv .1) (l .inv .2) (l .inv .4))
 
--- src/slices.rt:50:1
-same-length : tie.Need-same-length Inv-loop μ-loop
-same-length c = ?
-
--- src/slices.rt:50:1
 returns : tie.Need-returns Inv-loop μ-loop
-returns c = ?
+returns c =
+    let l = c .before .loop in
+    let a = c .before .before .args in
+    map-end (a .t1) (l .inv .3) (l .words) (l .k) (l .at) (l .inv .0) (c .loop-test .left) (l .inv .1) (l .inv .2) (l .inv .4)
 
 pub store-map-spec : {M : Type 1} → statement M
 store-map-spec =
@@ -87,21 +44,21 @@ store-map-spec =
     (tie.spec
     Inv-loop
     μ-loop
-    slice-write-words
+    (λ c. search needs)
     loop-holds
-    mul-range
-    element-copy-out-range
-    mul-words
-    slice-write-words-2
-    add-words
-    mul-words-2
-    slice-write-words-3
-    add-words-2
-    mul-words-3
-    slice-write-words-4
-    add-k
-    add-at
-    loop-less
+    (λ c. search needs)
+    (λ c. search needs)
+    (λ c. search needs)
+    (λ c. search needs)
+    (λ c. search needs)
+    (λ c. search needs)
+    (λ c. simp length-set (omega arith))
+    (λ c. search needs)
+    (λ c. search needs)
+    (λ c. simp length-set (omega arith))
+    (λ c. search needs)
+    (λ c. search needs)
+    (λ c. search needs)
     loop-again
-    same-length
+    (λ c. search needs)
     returns)
