@@ -65,9 +65,9 @@ named-end l i n h g =
     (last-named (drop i l) (omega (arith, length-drop i l)) ∙ ap (λ (k : ℕ). eqb k 0) (length-drop i l) ∙ all-passed (length l) i h)
 
 -- a step's number forms a step
-record IsFormed (d : Decoded) : Type 0 where
-  step : Step
-  formed : d ≡ Formed step
+pub record IsFormed (d : Decoded) : Type 0 where
+  pub step : Step
+  pub formed : d ≡ Formed step
 
 else-formed : (n k : ℕ) (s : Step) (d : Decoded) → k ≤ n → (k < n → IsFormed d) → IsFormed (cond (eqb n k) (Formed s) d)
 else-formed n k s d h f = go (eqb n k) refl
@@ -76,7 +76,7 @@ else-formed n k s d h f = go (eqb n k) refl
     go true e = record { step = s; formed = refl }
     go false e = let n≢k = eqb-false n k e in f (omega arith)
 
-number-formed : (n a b : ℕ) → n ≤ 17 → IsFormed (decoded n a b)
+pub number-formed : (n a b : ℕ) → n ≤ 17 → IsFormed (decoded n a b)
 unfolding decoded
 number-formed n a b h =
     else-formed n 0 _ _ (omega arith) (λ h0. else-formed n 1 _ _ (omega arith) (λ h1. else-formed n 2 _ _ (omega arith) (λ h2. else-formed n 3 _ _ (omega arith) (λ h3.

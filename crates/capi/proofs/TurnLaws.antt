@@ -3,6 +3,7 @@ use Prim.Native.Nat.{ℕ}
 use mathlib.Core.Path.{_≡_, refl, sym, ap, _∙_}
 use mathlib.Core.Bool.{Bool, true, false, cond, not, _||_, true≢false}
 use mathlib.Core.List.{List, [], _∷_, _++_}
+use lib.ListN.{length}
 use borrow.Author.Tests.{not-true, not-false}
 use Rattle.bits.proofs.Conjunction.{neither}
 use Rattle.registers.specs.declared.Pmp.{Pmp}
@@ -18,13 +19,17 @@ use Rattle.hart.specs.declared.Stepped.{Stepped}
 use Rattle.hart.specs.declared.Effect.{Effect}
 use Rattle.hart.specs.Effects.{canHold, refused, effect, isReset, mayRemap, judged}
 use Rattle.hart.specs.Steps.{mapFor, stepped}
+use Rattle.hart.specs.Saved.{hartOf}
 use Rattle.hart.specs.Runs.{afterAll, leftBy}
 use Rattle.hart.proofs.StepLaws.{only-reset, pmp-unchanged}
 use Rattle.hart.proofs.Holds.{reset-holds, effect-holds}
 use Rattle.capi.specs.declared.run.Turn.{Turn}
+use Rattle.capi.specs.declared.run.Ran.{Ran}
+use Rattle.capi.specs.MapWords.{mapOfWords, mapWords}
 use Rattle.capi.specs.Answers.{answerWords}
-use Rattle.capi.specs.Calls.{answersBy}
-use Rattle.capi.specs.Turns.{remaps, turned, anyRemaps, answersOf}
+use Rattle.capi.specs.Calls.{hartWords, answersBy, ran}
+use Rattle.capi.specs.Turns.{remaps, turned, anyRemaps, answersOf, ranBy}
+use Rattle.capi.proofs.MapWords.{map-words-back}
 
 -- ---- one step
 
@@ -96,3 +101,71 @@ step-parts h map s = go (isReset s) refl
           map = flipped (samePmp (h .pmp) (judged h s .hart .pmp)) map (mapFor (judged h s .hart .pmp)) j;
           answer = judged h s .answer;
         })
+
+-- ---- many steps
+
+-- where no step remaps, the protection registers stay
+unremapped : (steps : List Step) (h : Hart) → anyRemaps h steps ≡ false → h .pmp ≡ afterAll h steps .pmp
+unfolding anyRemaps afterAll
+unremapped [] h e = refl
+unremapped (s ∷ steps) h e =
+    let g = judged h s .hart in
+    let n = neither (remaps h s) (anyRemaps g steps) e in
+    let m = neither (isReset s) (not (samePmp (h .pmp) (g .pmp))) (n .0) in
+    same-pmp (h .pmp) (g .pmp) (not-false (samePmp (h .pmp) (g .pmp)) (m .1)) ∙ unremapped steps g (n .1)
+
+-- the map of the registers at the end, or the map given
+abbrev leftMap : Hart → Map → List Step → Map
+leftMap h map steps = cond (anyRemaps h steps) (mapFor (afterAll h steps .pmp)) map
+
+map-by : (steps : List Step) (g : Hart) (map : Map) (r : Bool)
+    → leftMap g (cond r (mapFor (g .pmp)) map) steps ≡ cond (r || anyRemaps g steps) (mapFor (afterAll g steps .pmp)) map
+map-by steps g map r = go r (anyRemaps g steps) refl
+  where
+    go : (b c : Bool) → anyRemaps g steps ≡ c
+        → cond c (mapFor (afterAll g steps .pmp)) (cond b (mapFor (g .pmp)) map) ≡ cond (b || c) (mapFor (afterAll g steps .pmp)) map
+    go true true e = refl
+    go true false e = ap mapFor (unremapped steps g e)
+    go false true e = refl
+    go false false e = refl
+
+-- the definitions over maps, by those that read none
+pub left-is : (steps : List Step) (h : Hart) (map : Map) → leftBy h map steps ≡ record { hart = afterAll h steps; map = leftMap h map steps }
+unfolding leftBy afterAll anyRemaps
+left-is [] h map = refl
+left-is (s ∷ steps) h map =
+    let g = judged h s .hart in
+    let n = cond (remaps h s) (mapFor (g .pmp)) map in
+    ap (λ (x : Stepped). leftBy (x .hart) (x .map) steps) (step-parts h map s) ∙ left-is steps g n
+    ∙ (λ j. record { hart = afterAll g steps; map = map-by steps g map (remaps h s) j })
+
+pub answers-are : (steps : List Step) (h : Hart) (map : Map) → answersBy h map steps ≡ answersOf h steps
+unfolding answersBy answersOf
+answers-are [] h map = refl
+answers-are (s ∷ steps) h map =
+    let g = judged h s .hart in
+    let n = cond (remaps h s) (mapFor (g .pmp)) map in
+    ap (λ (x : Stepped). answerWords (x .answer) ++ answersBy (x .hart) (x .map) steps) (step-parts h map s)
+    ∙ ap (λ (l : List ℕ). answerWords (judged h s .answer) ++ l) (answers-are steps g n)
+
+-- ---- what a run leaves in the slices
+
+module _ (hart map : List ℕ) (steps : List Step) (fit : length map ≡ 100) {h : Hart} {r : Ran} (e : h ≡ hartOf hart) (f : r ≡ ranBy h steps) where
+  ends : r ≡ ranBy (hartOf hart) steps
+  ends = f ∙ ap (λ (x : Hart). ranBy x steps) e
+
+  pub ran-hart : {x : List ℕ} → x ≡ hartWords (r .hart) → x ≡ ran (hartOf hart) (mapOfWords map) steps .hart
+  ran-hart p = p ∙ ap (λ (y : Ran). hartWords (y .hart)) ends ∙ ap (λ (l : Mapped). hartWords (l .hart)) (sym (left-is steps (hartOf hart) (mapOfWords map)))
+
+  chosen : (b : Bool) (m : Map) → cond b (mapWords m) map ≡ mapWords (cond b m (mapOfWords map))
+  chosen true m = refl
+  chosen false m = sym (map-words-back map fit)
+
+  pub ran-map : {x : List ℕ} → x ≡ cond (r .remap) (mapWords (mapFor (r .hart .pmp))) map → x ≡ ran (hartOf hart) (mapOfWords map) steps .map
+  ran-map p =
+      p ∙ ap (λ (y : Ran). cond (y .remap) (mapWords (mapFor (y .hart .pmp))) map) ends
+      ∙ chosen (anyRemaps (hartOf hart) steps) (mapFor (afterAll (hartOf hart) steps .pmp))
+      ∙ ap (λ (l : Mapped). mapWords (l .map)) (sym (left-is steps (hartOf hart) (mapOfWords map)))
+
+  pub ran-answers : {x : List ℕ} → x ≡ answersOf h steps → x ≡ ran (hartOf hart) (mapOfWords map) steps .answers
+  ran-answers p = p ∙ ap (λ (y : Hart). answersOf y steps) e ∙ sym (answers-are steps (hartOf hart) (mapOfWords map))

@@ -9,7 +9,7 @@ ghost use mathlib.Core.Path.{_≡_};
 ghost use mathlib.Core.Bool.{_&&_};
 ghost use lib.Dec.{eqb, leb};
 ghost use Rattle.registers.specs.Hold.{isMode};
-ghost use Rattle.capi.specs.Calls.{queryResult, queryAnswered, saveResult, savedText, restoreResult, restoredHart, restoredMap};
+ghost use Rattle.capi.specs.Calls.{stepCall, runCall, queryResult, queryAnswered, saveResult, savedText, restoreResult, restoredHart, restoredMap};
 
 fn fit(hart: usize, map: usize) -> bool
     ensures { λ r. ⌜ r ≡ (eqb hart 41 && eqb map 100) ⌝ }
@@ -21,6 +21,50 @@ fn queryable(mode: u64, kind: u64) -> bool
     ensures { λ r. ⌜ r ≡ (isMode mode && leb kind 2) ⌝ }
 {
     ((mode == 0) | ((mode == 1) | (mode == 3))) & (kind <= 2)
+}
+
+// One step: its number, 0 to 17, and its arguments. 1, or 0 where a length or the number is another.
+#[no_mangle]
+pub extern "C" fn tegrwyllt_step(
+    hart: &mut [u64],
+    map: &mut [u64],
+    step: u64,
+    a: u64,
+    b: u64,
+    answer: &mut [u64],
+) -> u64
+    ensures { λ r. ⌜ r ≡ stepCall (now (hart .entry)) (now (map .entry)) step a b (now (answer .entry)) .result ⌝ }
+    ensures { λ _. ⌜ now (hart .exit) ≡ stepCall (now (hart .entry)) (now (map .entry)) step a b (now (answer .entry)) .hart ⌝ }
+    ensures { λ _. ⌜ now (map .exit) ≡ stepCall (now (hart .entry)) (now (map .entry)) step a b (now (answer .entry)) .map ⌝ }
+    ensures { λ _. ⌜ now (answer .exit) ≡ stepCall (now (hart .entry)) (now (map .entry)) step a b (now (answer .entry)) .answers ⌝ }
+{
+    if !(fit(hart.len(), map.len()) & ((answer.len() == 3) & (step <= 17))) {
+        return 0;
+    }
+    let words = [step, a, b];
+    run::run(hart, map, &words, answer);
+    1
+}
+
+// Steps in order, each given what the one before left: three words for each step, and three for its answer. 1, or 0 where a length or a step's number is
+// another.
+#[no_mangle]
+pub extern "C" fn tegrwyllt_run(
+    hart: &mut [u64],
+    map: &mut [u64],
+    steps: &[u64],
+    answers: &mut [u64],
+) -> u64
+    ensures { λ r. ⌜ r ≡ runCall (now (hart .entry)) (now (map .entry)) (now (steps .entry)) (now (answers .entry)) .result ⌝ }
+    ensures { λ _. ⌜ now (hart .exit) ≡ runCall (now (hart .entry)) (now (map .entry)) (now (steps .entry)) (now (answers .entry)) .hart ⌝ }
+    ensures { λ _. ⌜ now (map .exit) ≡ runCall (now (hart .entry)) (now (map .entry)) (now (steps .entry)) (now (answers .entry)) .map ⌝ }
+    ensures { λ _. ⌜ now (answers .exit) ≡ runCall (now (hart .entry)) (now (map .entry)) (now (steps .entry)) (now (answers .entry)) .answers ⌝ }
+{
+    if !(fit(hart.len(), map.len()) & ((answers.len() == steps.len()) & run::name_steps(steps))) {
+        return 0;
+    }
+    run::run(hart, map, steps, answers);
+    1
 }
 
 // An access query of an effective mode, 0, 1 or 3, and a kind, 0 fetch, 1 load, 2 store. 1, or 0 where a length, the mode or the kind is another.

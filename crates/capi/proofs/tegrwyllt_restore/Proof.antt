@@ -1,64 +1,68 @@
+-- `tegrwyllt_restore` meets its contract. Assumes nothing.
 use borrow.Author.Needs.{needs}
+use mathlib.Core.Path.{_≡_, sym, _∙_}
+use mathlib.Core.Bool.{true}
+use native.Mathlib.Omega.{arith}
+use borrow.Author.Tests.{not-true, not-false}
+use Rattle.lines.proofs.Back.{Words}
+use Rattle.capi.specs.Calls.{fits}
+use Rattle.capi.proofs.CallLaws.{fitting}
+use Rattle.capi.proofs.SaveLaws.{not-restored, restore-refused, restore-done}
 use Rattle.capi.proofs.tegrwyllt_restore.Statement.{statement}
 use Rattle.capi.proofs.tegrwyllt_restore.Tie as tie
-use Rattle.capi.proofs.tegrwyllt_restore.Reads as reads
-use Rattle.capi.proofs.tegrwyllt_restore.Lts as lts
-use Rattle.capi.proofs.fit.Reads as fit-reads
-use Rattle.capi.proofs.restore.read.Reads as read-reads
-use Rattle.capi.proofs.restore.write.Reads as write-reads
-use Rattle.hart.proofs.refusal_of.Reads as refusal-of-reads
 
--- src/lib.rt:72:9
-fit-requires : tie.Need-fit-requires
-fit-requires c κs = search needs
-
--- src/lib.rt:73:9
 returns : tie.Need-returns
-returns c = ?
+returns c =
+    let f = c .before in
+    let a = f .before .before .before .before .args in
+    not-restored (a .text .now) (a .hart .now) (a .map .now) (sym (f .fit .ensures) ∙ not-true _ (c .if1 .taken))
 
--- src/lib.rt:75:9
+fitted : (c : tie.Else1) → let a = c .before .before .before .before .before .args in fits (a .hart .now) (a .map .now) ≡ true
+fitted c = sym (c .before .fit .ensures) ∙ not-false _ (c .if1 .left)
+
+given : (c : tie.Else1) → Words 41 (c .before .before .before .before .before .args .hart .now)
+given c =
+    let k = c .before .before .before in
+    let a = k .before .before .args in
+    record { count = fitting (a .hart .now) (a .map .now) (fitted c) .0; below = λ i. omega (arith, k .slice-known .given i) }
+
 read-requires : tie.Need-read-requires
-read-requires c κs = ?
+read-requires c κs = given (c .before) .count
 
--- src/lib.rt:77:9
-refusal-of-requires : tie.Need-refusal-of-requires
-refusal-of-requires c κs = search needs
-
--- src/lib.rt:79:9
-same-length : tie.Need-same-length
-same-length c = search needs
-
--- src/lib.rt:79:9
 returns-2 : tie.Need-returns-2
-returns-2 c = ?
+returns-2 c =
+    let r = c .before .before in
+    let e = r .before .before in
+    let a = e .before .before .before .before .before .args in
+    restore-refused (a .text .now) (a .hart .now) (a .map .now) (fitted e) (given e) (r .read .ensures) (c .before .refusal-of .ensures) (c .if2 .taken)
 
--- src/lib.rt:81:5
 write-requires : tie.Need-write-requires
-write-requires c κs = ?
+write-requires c κs =
+    let e = c .before .before .before .before .before .before in
+    let a = e .before .before .before .before .before .args in
+    fitting (a .hart .now) (a .map .now) (fitted e)
 
--- src/lib.rt:66:1
-same-length-2 : tie.Need-same-length-2
-same-length-2 c = search needs
-
--- src/lib.rt:66:1
-same-length-3 : tie.Need-same-length-3
-same-length-3 c = search needs
-
--- src/lib.rt:66:1
 returns-3 : tie.Need-returns-3
-returns-3 c = ?
+returns-3 c =
+    let w = c .before .before .before .before in
+    let d = w .before .before .before in
+    let r = d .before .before in
+    let e = r .before .before in
+    let a = e .before .before .before .before .before .args in
+    restore-done (a .text .now) (a .hart .now) (a .map .now) (fitted e) (given e) (r .read .ensures) (d .before .refusal-of .ensures) (d .if2 .left)
+    (w .write .ensures .0) (w .write .ensures .1)
 
 pub tegrwyllt-restore-spec : {M : Type 1} → statement M
 tegrwyllt-restore-spec =
     tie.close
     (tie.spec
-    fit-requires
+    (λ c κs. search needs)
     returns
     read-requires
-    refusal-of-requires
-    same-length
+    (λ c κs. search needs)
+    (λ c. search needs)
     returns-2
     write-requires
-    same-length-2
-    same-length-3
+    (λ c. search needs)
+    (λ c. search needs)
     returns-3)

@@ -129,14 +129,15 @@ loop-again c =
     let l = i .before .loop in
     let v = i .before .before .before .before .before .args .steps .now in
     let n = at i in
-    let e = t .take-turn-by .ensures in
-    (n .room,
-    simp length-set (l .inv .1),
-    n .rest,
-    held-next v (l .i) (l .hart) (t .take-turn-by .result) n e,
-    hart-next v (l .i) (l .hart) (t .take-turn-by .result) n e ∙ l .inv .4,
-    remap-next v (l .i) (l .hart) (t .take-turn-by .result) n e (l .remap) ∙ l .inv .5,
-    answers-next v (l .i) (l .hart) (t .take-turn-by .result) n e (l .answers) (w .answer-words .result) (l .inv .1) (w .answer-words .ensures) ∙ l .inv .6)
+    let e = t .take-turn-by .ensures in (
+      n .room,
+      simp length-set (l .inv .1),
+      n .rest,
+      held-next v (l .i) (l .hart) (t .take-turn-by .result) n e,
+      hart-next v (l .i) (l .hart) (t .take-turn-by .result) n e ∙ l .inv .4,
+      remap-next v (l .i) (l .hart) (t .take-turn-by .result) n e (l .remap) ∙ l .inv .5,
+      answers-next v (l .i) (l .hart) (t .take-turn-by .result) n e (l .answers) (w .answer-words .result) (l .inv .1) (w .answer-words .ensures) ∙ l .inv .6,
+    )
 
 returns : tie.Need-returns Inv-loop μ-loop
 returns c =

@@ -28,9 +28,13 @@ loop-again : tie.Need-loop-again Inv-loop μ-loop
 loop-again c =
     let i = c .before in
     let l = i .before .loop in
-    let a = i .before .before .args in
-    (search needs, search needs, simp length-set (l .inv .2), l .inv .3,
-    map-next (a .t1) (l .inv .3) (l .words) (l .k) (l .at) (i .loop-test .taken) (l .inv .1) (l .inv .2) (l .inv .4))
+    let a = i .before .before .args in (
+      search needs,
+      search needs,
+      simp length-set (l .inv .2),
+      l .inv .3,
+      map-next (a .t1) (l .inv .3) (l .words) (l .k) (l .at) (i .loop-test .taken) (l .inv .1) (l .inv .2) (l .inv .4),
+    )
 
 returns : tie.Need-returns Inv-loop μ-loop
 returns c =
