@@ -1,0 +1,9 @@
+-- The laws that the proofs cite.
+pub mod MapWords
+pub mod SliceLaws
+pub mod CallLaws
+pub mod QueryLaws
+pub mod SaveLaws
+pub mod Exceptions
+pub mod TurnLaws
+pub mod RunLaws

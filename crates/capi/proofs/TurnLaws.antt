@@ -1,0 +1,171 @@
+-- One step without its map, and many: they leave what the definitions over maps say. Assumes nothing.
+use Prim.Native.Nat.{ℕ}
+use mathlib.Core.Path.{_≡_, refl, sym, ap, _∙_}
+use mathlib.Core.Bool.{Bool, true, false, cond, not, _||_, true≢false}
+use mathlib.Core.List.{List, [], _∷_, _++_}
+use lib.ListN.{length}
+use borrow.Author.Tests.{not-true, not-false}
+use Rattle.bits.proofs.Conjunction.{neither}
+use Rattle.registers.specs.declared.Pmp.{Pmp}
+use Rattle.registers.specs.Same.{samePmp}
+use Rattle.registers.proofs.SameLaws.{same-pmp, same-pmp-refl}
+use Rattle.map.specs.declared.Map.{Map}
+use Rattle.trap.specs.declared.Answer.the-variants.{Refused}
+use Rattle.hart.specs.declared.Hart.{Hart}
+use Rattle.hart.specs.declared.Mapped.{Mapped}
+use Rattle.hart.specs.declared.Step.{Step}
+use Rattle.hart.specs.declared.Step.the-variants.{Reset}
+use Rattle.hart.specs.declared.Stepped.{Stepped}
+use Rattle.hart.specs.declared.Effect.{Effect}
+use Rattle.hart.specs.Effects.{canHold, refused, effect, isReset, mayRemap, judged}
+use Rattle.hart.specs.Steps.{mapFor, stepped}
+use Rattle.hart.specs.Saved.{hartOf}
+use Rattle.hart.specs.Runs.{afterAll, leftBy}
+use Rattle.hart.proofs.StepLaws.{only-reset, pmp-unchanged}
+use Rattle.hart.proofs.Holds.{reset-holds, effect-holds}
+use Rattle.capi.specs.declared.run.Turn.{Turn}
+use Rattle.capi.specs.declared.run.Ran.{Ran}
+use Rattle.capi.specs.MapWords.{mapOfWords, mapWords}
+use Rattle.capi.specs.Answers.{answerWords}
+use Rattle.capi.specs.Calls.{hartWords, answersBy, ran}
+use Rattle.capi.specs.Turns.{remaps, turned, anyRemaps, answersOf, ranBy}
+use Rattle.capi.proofs.MapWords.{map-words-back}
+
+-- ---- one step
+
+module _ (h : Hart) (s : Step) (reset held : Bool) (p : reset ≡ isReset s) (q : held ≡ canHold h) where
+  taken : (reset || held) ≡ true → judged h s ≡ effect h s
+  unfolding judged
+  taken t = rw (← p, ← q, t)
+
+  passed : (reset || held) ≡ false → judged h s ≡ refused h 3
+  unfolding judged
+  passed t = rw (← p, ← q, t)
+
+  -- a state that cannot be held is refused, and stays
+  pub turn-refused : (reset || held) ≡ false → record { hart = h; answer = Refused 3; held = false; remap = false } ≡ turned h s
+  turn-refused t =
+      let n = neither reset held t in
+      rw (passed t, ← q, n .1, ← p, n .0, same-pmp-refl (h .pmp))
+
+  -- every other state can be held after the step
+  kept : (reset || held) ≡ true → canHold (effect h s .hart) ≡ true
+  kept t = go reset p t
+    where
+      go : (b : Bool) → b ≡ isReset s → (b || held) ≡ true → canHold (effect h s .hart) ≡ true
+      go true e u = rw (only-reset s (sym e)) reset-holds
+      go false e u = effect-holds h (sym q ∙ u) s
+
+  not-reset : mayRemap s ≡ false → isReset s ≡ false
+  not-reset m = go (isReset s) refl
+    where
+      go : (b : Bool) → isReset s ≡ b → b ≡ false
+      go true e = absurd (true≢false (ap mayRemap (sym (only-reset s e)) ∙ m))
+      go false e = refl
+
+  module _ (e : Effect) (f : e ≡ effect h s) (t : (reset || held) ≡ true) where
+    pub turn-stays : mayRemap s ≡ false
+        → record { hart = e .hart; answer = e .answer; held = true; remap = false } ≡ turned h s
+    turn-stays m = rw (f, taken t, kept t, not-reset m, ← pmp-unchanged h s m, same-pmp-refl (h .pmp))
+
+    pub turn-done : (b : Bool) → b ≡ samePmp (h .pmp) (e .hart .pmp)
+        → record { hart = e .hart; answer = e .answer; held = true; remap = reset || not b } ≡ turned h s
+    turn-done b g = rw (g, f, taken t, kept t, ← p)
+
+-- ---- the map
+
+-- what a step hands back, by its effect and whether it remaps
+abbrev parts : Hart → Map → Step → Stepped
+parts h map s =
+    record { hart = judged h s .hart; map = cond (remaps h s) (mapFor (judged h s .hart .pmp)) map; answer = judged h s .answer }
+
+at-reset : (h : Hart) (map : Map) → stepped h map Reset ≡ parts h map Reset
+unfolding stepped judged
+at-reset h map = refl
+
+flipped : (b : Bool) (x y : Map) → cond b x y ≡ cond (not b) y x
+flipped true x y = refl
+flipped false x y = refl
+
+step-parts : (h : Hart) (map : Map) (s : Step) → stepped h map s ≡ parts h map s
+unfolding stepped
+step-parts h map s = go (isReset s) refl
+  where
+    go : (b : Bool) → isReset s ≡ b → stepped h map s ≡ parts h map s
+    go true e = rw (only-reset s e) (at-reset h map)
+    go false e =
+        rw e
+        (λ j.
+        record {
+          hart = judged h s .hart;
+          map = flipped (samePmp (h .pmp) (judged h s .hart .pmp)) map (mapFor (judged h s .hart .pmp)) j;
+          answer = judged h s .answer;
+        })
+
+-- ---- many steps
+
+-- where no step remaps, the protection registers stay
+unremapped : (steps : List Step) (h : Hart) → anyRemaps h steps ≡ false → h .pmp ≡ afterAll h steps .pmp
+unfolding anyRemaps afterAll
+unremapped [] h e = refl
+unremapped (s ∷ steps) h e =
+    let g = judged h s .hart in
+    let n = neither (remaps h s) (anyRemaps g steps) e in
+    let m = neither (isReset s) (not (samePmp (h .pmp) (g .pmp))) (n .0) in
+    same-pmp (h .pmp) (g .pmp) (not-false (samePmp (h .pmp) (g .pmp)) (m .1)) ∙ unremapped steps g (n .1)
+
+-- the map of the registers at the end, or the map given
+abbrev leftMap : Hart → Map → List Step → Map
+leftMap h map steps = cond (anyRemaps h steps) (mapFor (afterAll h steps .pmp)) map
+
+map-by : (steps : List Step) (g : Hart) (map : Map) (r : Bool)
+    → leftMap g (cond r (mapFor (g .pmp)) map) steps ≡ cond (r || anyRemaps g steps) (mapFor (afterAll g steps .pmp)) map
+map-by steps g map r = go r (anyRemaps g steps) refl
+  where
+    go : (b c : Bool) → anyRemaps g steps ≡ c
+        → cond c (mapFor (afterAll g steps .pmp)) (cond b (mapFor (g .pmp)) map) ≡ cond (b || c) (mapFor (afterAll g steps .pmp)) map
+    go true true e = refl
+    go true false e = ap mapFor (unremapped steps g e)
+    go false true e = refl
+    go false false e = refl
+
+-- the definitions over maps, by those that read none
+pub left-is : (steps : List Step) (h : Hart) (map : Map) → leftBy h map steps ≡ record { hart = afterAll h steps; map = leftMap h map steps }
+unfolding leftBy afterAll anyRemaps
+left-is [] h map = refl
+left-is (s ∷ steps) h map =
+    let g = judged h s .hart in
+    let n = cond (remaps h s) (mapFor (g .pmp)) map in
+    ap (λ (x : Stepped). leftBy (x .hart) (x .map) steps) (step-parts h map s) ∙ left-is steps g n
+    ∙ (λ j. record { hart = afterAll g steps; map = map-by steps g map (remaps h s) j })
+
+pub answers-are : (steps : List Step) (h : Hart) (map : Map) → answersBy h map steps ≡ answersOf h steps
+unfolding answersBy answersOf
+answers-are [] h map = refl
+answers-are (s ∷ steps) h map =
+    let g = judged h s .hart in
+    let n = cond (remaps h s) (mapFor (g .pmp)) map in
+    ap (λ (x : Stepped). answerWords (x .answer) ++ answersBy (x .hart) (x .map) steps) (step-parts h map s)
+    ∙ ap (λ (l : List ℕ). answerWords (judged h s .answer) ++ l) (answers-are steps g n)
+
+-- ---- what a run leaves in the slices
+
+module _ (hart map : List ℕ) (steps : List Step) (fit : length map ≡ 100) {h : Hart} {r : Ran} (e : h ≡ hartOf hart) (f : r ≡ ranBy h steps) where
+  ends : r ≡ ranBy (hartOf hart) steps
+  ends = f ∙ ap (λ (x : Hart). ranBy x steps) e
+
+  pub ran-hart : {x : List ℕ} → x ≡ hartWords (r .hart) → x ≡ ran (hartOf hart) (mapOfWords map) steps .hart
+  ran-hart p = p ∙ ap (λ (y : Ran). hartWords (y .hart)) ends ∙ ap (λ (l : Mapped). hartWords (l .hart)) (sym (left-is steps (hartOf hart) (mapOfWords map)))
+
+  chosen : (b : Bool) (m : Map) → cond b (mapWords m) map ≡ mapWords (cond b m (mapOfWords map))
+  chosen true m = refl
+  chosen false m = sym (map-words-back map fit)
+
+  pub ran-map : {x : List ℕ} → x ≡ cond (r .remap) (mapWords (mapFor (r .hart .pmp))) map → x ≡ ran (hartOf hart) (mapOfWords map) steps .map
+  ran-map p =
+      p ∙ ap (λ (y : Ran). cond (y .remap) (mapWords (mapFor (y .hart .pmp))) map) ends
+      ∙ chosen (anyRemaps (hartOf hart) steps) (mapFor (afterAll (hartOf hart) steps .pmp))
+      ∙ ap (λ (l : Mapped). mapWords (l .map)) (sym (left-is steps (hartOf hart) (mapOfWords map)))
+
+  pub ran-answers : {x : List ℕ} → x ≡ answersOf h steps → x ≡ ran (hartOf hart) (mapOfWords map) steps .answers
+  ran-answers p = p ∙ ap (λ (y : Hart). answersOf y steps) e ∙ sym (answers-are steps (hartOf hart) (mapOfWords map))

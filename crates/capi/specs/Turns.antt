@@ -1,0 +1,56 @@
+-- Steps with no map read: the map is compiled once, at the end of a run, where a step asked for a fresh one.
+use mathlib.Core.Bool.{Bool, false, _||_, not}
+use Prim.Native.Nat.{ℕ}
+use mathlib.Core.List.{List, [], _∷_, _++_}
+use Rattle.registers.specs.Same.{samePmp}
+use Rattle.trap.specs.declared.Answer.{Answer}
+use Rattle.trap.specs.declared.Answer.the-variants.{Done, DoneValue, DoneFlag, Granted, Trapped, Refused}
+use Rattle.trap.specs.Number.{interruptNumber}
+use Rattle.hart.specs.declared.Hart.{Hart}
+use Rattle.hart.specs.declared.Step.{Step}
+use Rattle.hart.specs.declared.Decoded.{Decoded}
+use Rattle.hart.specs.declared.Decoded.the-variants.{Formed, Nothing}
+use Rattle.hart.specs.Effects.{canHold, isReset, judged}
+use Rattle.hart.specs.Runs.{afterAll}
+use Rattle.capi.specs.declared.run.Turn.{Turn}
+use Rattle.capi.specs.declared.run.Ran.{Ran}
+use Rattle.capi.specs.Answers.{answerWords}
+
+-- the interrupt of an answer, 0 for none: no step answers with one
+abbrev pub answerInterrupt : Answer → ℕ
+answerInterrupt Done = 0
+answerInterrupt (DoneValue old) = 0
+answerInterrupt (DoneFlag flag) = 0
+answerInterrupt Granted = 0
+answerInterrupt (Trapped trap level) = interruptNumber trap
+answerInterrupt (Refused number) = 0
+
+-- whether a step hands back a freshly compiled map
+abbrev pub remaps : Hart → Step → Bool
+remaps h s = isReset s || not (samePmp (h .pmp) (judged h s .hart .pmp))
+
+-- one step
+abbrev pub turned : Hart → Step → Turn
+turned h s =
+    record {
+      hart = judged h s .hart;
+      answer = judged h s .answer;
+      held = canHold (judged h s .hart);
+      remap = remaps h s;
+    }
+
+abbrev pub turnedBy : Hart → Decoded → Turn
+turnedBy h (Formed s) = turned h s
+turnedBy h Nothing = record { hart = h; answer = Done; held = canHold h; remap = false }
+
+-- many steps
+unfoldable pub anyRemaps : Hart → List Step → Bool
+anyRemaps h [] = false
+anyRemaps h (s ∷ steps) = remaps h s || anyRemaps (judged h s .hart) steps
+
+unfoldable pub answersOf : Hart → List Step → List ℕ
+answersOf h [] = []
+answersOf h (s ∷ steps) = answerWords (judged h s .answer) ++ answersOf (judged h s .hart) steps
+
+abbrev pub ranBy : Hart → List Step → Ran
+ranBy h steps = record { hart = afterAll h steps; remap = anyRemaps h steps }

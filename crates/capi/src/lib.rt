@@ -1,0 +1,127 @@
+// The interface for C: harts, maps, steps and answers as words. A call whose slices have another length changes nothing.
+mod answers;
+mod query;
+mod restore;
+mod run;
+mod slices;
+
+ghost use mathlib.Core.Path.{_≡_};
+ghost use mathlib.Core.Bool.{_&&_};
+ghost use lib.Dec.{eqb, leb};
+ghost use Rattle.registers.specs.Hold.{isMode};
+ghost use Rattle.capi.specs.Calls.{stepCall, runCall, queryResult, queryAnswered, saveResult, savedText, restoreResult, restoredHart, restoredMap};
+
+fn fit(hart: usize, map: usize) -> bool
+    ensures { λ r. ⌜ r ≡ (eqb hart 41 && eqb map 100) ⌝ }
+{
+    (hart == 41) & (map == 100)
+}
+
+fn queryable(mode: u64, kind: u64) -> bool
+    ensures { λ r. ⌜ r ≡ (isMode mode && leb kind 2) ⌝ }
+{
+    ((mode == 0) | ((mode == 1) | (mode == 3))) & (kind <= 2)
+}
+
+// One step: its number, 0 to 17, and its arguments. 1, or 0 where a length or the number is another.
+#[no_mangle]
+pub extern "C" fn tegrwyllt_step(
+    hart: &mut [u64],
+    map: &mut [u64],
+    step: u64,
+    a: u64,
+    b: u64,
+    answer: &mut [u64],
+) -> u64
+    ensures { λ r. ⌜ r ≡ stepCall (now (hart .entry)) (now (map .entry)) step a b (now (answer .entry)) .result ⌝ }
+    ensures { λ _. ⌜ now (hart .exit) ≡ stepCall (now (hart .entry)) (now (map .entry)) step a b (now (answer .entry)) .hart ⌝ }
+    ensures { λ _. ⌜ now (map .exit) ≡ stepCall (now (hart .entry)) (now (map .entry)) step a b (now (answer .entry)) .map ⌝ }
+    ensures { λ _. ⌜ now (answer .exit) ≡ stepCall (now (hart .entry)) (now (map .entry)) step a b (now (answer .entry)) .answers ⌝ }
+{
+    if !(fit(hart.len(), map.len()) & ((answer.len() == 3) & (step <= 17))) {
+        return 0;
+    }
+    let words = [step, a, b];
+    run::run(hart, map, &words, answer);
+    1
+}
+
+// Steps in order, each given what the one before left: three words for each step, and three for its answer. 1, or 0 where a length or a step's number is
+// another.
+#[no_mangle]
+pub extern "C" fn tegrwyllt_run(
+    hart: &mut [u64],
+    map: &mut [u64],
+    steps: &[u64],
+    answers: &mut [u64],
+) -> u64
+    ensures { λ r. ⌜ r ≡ runCall (now (hart .entry)) (now (map .entry)) (now (steps .entry)) (now (answers .entry)) .result ⌝ }
+    ensures { λ _. ⌜ now (hart .exit) ≡ runCall (now (hart .entry)) (now (map .entry)) (now (steps .entry)) (now (answers .entry)) .hart ⌝ }
+    ensures { λ _. ⌜ now (map .exit) ≡ runCall (now (hart .entry)) (now (map .entry)) (now (steps .entry)) (now (answers .entry)) .map ⌝ }
+    ensures { λ _. ⌜ now (answers .exit) ≡ runCall (now (hart .entry)) (now (map .entry)) (now (steps .entry)) (now (answers .entry)) .answers ⌝ }
+{
+    if !(fit(hart.len(), map.len()) & ((answers.len() == steps.len()) & run::name_steps(steps))) {
+        return 0;
+    }
+    run::run(hart, map, steps, answers);
+    1
+}
+
+// An access query of an effective mode, 0, 1 or 3, and a kind, 0 fetch, 1 load, 2 store. 1, or 0 where a length, the mode or the kind is another.
+#[no_mangle]
+pub extern "C" fn tegrwyllt_query(
+    hart: &[u64],
+    map: &[u64],
+    mode: u64,
+    kind: u64,
+    address: u64,
+    size: u64,
+    answer: &mut [u64],
+) -> u64
+    ensures { λ r. ⌜ r ≡ queryResult (now (hart .entry)) (now (map .entry)) mode kind (now (answer .entry)) ⌝ }
+    ensures { λ _. ⌜ now (answer .exit) ≡ queryAnswered (now (hart .entry)) (now (map .entry)) mode kind address size (now (answer .entry)) ⌝ }
+{
+    if !(fit(hart.len(), map.len()) & ((answer.len() == 3) & queryable(mode, kind))) {
+        return 0;
+    }
+    let decision = query::ask(hart, map, mode, kind, address, size);
+    let words = answers::decision_words(decision);
+    slices::copy(&words, answer);
+    1
+}
+
+// What a call gives where the hart or the map has another length: no refusal has this number.
+const MISFIT: u64 = 0xFFFFFFFFFFFFFFFF;
+
+// Saves a hart to the front of a buffer. 0, or the number of the refusal, 3 before 6.
+#[no_mangle]
+pub extern "C" fn tegrwyllt_save(hart: &[u64], text: &mut [u8]) -> u64
+    ensures { λ r. ⌜ r ≡ saveResult (now (hart .entry)) (now (text .entry)) ⌝ }
+    ensures { λ _. ⌜ now (text .exit) ≡ savedText (now (hart .entry)) (now (text .entry)) ⌝ }
+{
+    if hart.len() != 41 {
+        return MISFIT;
+    }
+    let given = slices::load(hart);
+    hart::refusal_of(given.save(text))
+}
+
+// Reads a text back as a hart and its map. 0, or the number of the refusal, 4 before 5; then hart and map are left as they were.
+#[no_mangle]
+pub extern "C" fn tegrwyllt_restore(text: &[u8], hart: &mut [u64], map: &mut [u64]) -> u64
+    ensures { λ r. ⌜ r ≡ restoreResult (now (text .entry)) (now (hart .entry)) (now (map .entry)) ⌝ }
+    ensures { λ _. ⌜ now (hart .exit) ≡ restoredHart (now (text .entry)) (now (hart .entry)) (now (map .entry)) ⌝ }
+    ensures { λ _. ⌜ now (map .exit) ≡ restoredMap (now (text .entry)) (now (hart .entry)) (now (map .entry)) ⌝ }
+{
+    if !fit(hart.len(), map.len()) {
+        return MISFIT;
+    }
+    let read = restore::read(text, hart);
+    let answer = read.answer;
+    let refusal = hart::refusal_of(answer);
+    if refusal != 0 {
+        return refusal;
+    }
+    restore::write(read, hart, map);
+    0
+}
