@@ -1,0 +1,95 @@
+/*
+ * Tegrwyllt: a RISC-V hart with physical memory protection, for C.
+ *
+ * Every function is proved to do what its contract says on any slices that do
+ * not overlap. A slice is passed as a pointer and a number of elements, and
+ * nothing is kept from one call to the next.
+ *
+ * A hart is 41 words in the order of the saved text: mode pc mstatus medeleg
+ * mideleg mie mip lines mtvec mcounteren mcountinhibit mscratch mepc mcause
+ * mtval stvec scounteren sscratch sepc scause stval mcycle minstret pmpcfg0
+ * pmpcfg2 pmpaddr0 .. pmpaddr15. mip has the software bits only.
+ *
+ * A map is 100 words: its count, then first byte, last byte and owner of each
+ * of 33 ranges. An owner is an entry, 0 to 15, or 16 for none.
+ *
+ * An answer is three words, those not named 0:
+ *   0         done
+ *   1 value   done, with the old value of a CSR
+ *   2 flag    done, with yes (1) or no (0)
+ *   3         granted
+ *   4 cause mode  trapped, with the destination mode
+ *   5 number  refused
+ *   6 cause   fault (of a query)
+ */
+#ifndef TEGRWYLLT_H
+#define TEGRWYLLT_H
+
+#include <stddef.h>
+#include <stdint.h>
+
+#ifdef __cplusplus
+extern "C" {
+#endif
+
+#define TEGRWYLLT_HART_WORDS 41
+#define TEGRWYLLT_MAP_WORDS 100
+#define TEGRWYLLT_STEP_WORDS 3
+#define TEGRWYLLT_ANSWER_WORDS 3
+#define TEGRWYLLT_TEXT_BYTES 1027
+#define TEGRWYLLT_NO_OWNER 16
+
+/* What save and restore give where the hart or the map has another length. */
+#define TEGRWYLLT_MISFIT UINT64_MAX
+
+/*
+ * One step, 0 to 17, with its arguments a and b. Hart and map become what the
+ * step leaves, and answer what it answers. Gives 1; or 0, and changes nothing,
+ * where a length or the step's number is another.
+ */
+uint64_t tegrwyllt_step(uint64_t *hart, size_t hart_length,
+                        uint64_t *map, size_t map_length,
+                        uint64_t step, uint64_t a, uint64_t b,
+                        uint64_t *answer, size_t answer_length);
+
+/*
+ * Steps in order, each given what the one before left. A step is three words,
+ * its number, a and b; answers has as many words as steps. Gives 1; or 0, and
+ * changes nothing, where a length or any step's number is another.
+ */
+uint64_t tegrwyllt_run(uint64_t *hart, size_t hart_length,
+                       uint64_t *map, size_t map_length,
+                       const uint64_t *steps, size_t steps_length,
+                       uint64_t *answers, size_t answers_length);
+
+/*
+ * What the map says of an access in an effective mode (0 U, 1 S, 3 M), of a
+ * kind (0 fetch, 1 load, 2 store). Gives 1; or 0, and changes nothing, where a
+ * length, the mode or the kind is another.
+ */
+uint64_t tegrwyllt_query(const uint64_t *hart, size_t hart_length,
+                         const uint64_t *map, size_t map_length,
+                         uint64_t mode, uint64_t kind,
+                         uint64_t address, uint64_t size,
+                         uint64_t *answer, size_t answer_length);
+
+/*
+ * Writes the hart's text to the first 1027 bytes of a buffer. Gives 0; or the
+ * refusal's number, 3 or 6; or TEGRWYLLT_MISFIT. Unless 0, nothing is changed.
+ */
+uint64_t tegrwyllt_save(const uint64_t *hart, size_t hart_length,
+                        uint8_t *text, size_t text_length);
+
+/*
+ * Reads a text back as a hart and its map. Gives 0; or the refusal's number, 4
+ * or 5; or TEGRWYLLT_MISFIT. Unless 0, nothing is changed.
+ */
+uint64_t tegrwyllt_restore(const uint8_t *text, size_t text_length,
+                           uint64_t *hart, size_t hart_length,
+                           uint64_t *map, size_t map_length);
+
+#ifdef __cplusplus
+}
+#endif
+
+#endif
