@@ -1,4 +1,4 @@
--- Tests: a conjunction of them taken apart and put together, and a test of one of two values.
+-- Tests: conjunctions and disjunctions taken apart and put together, and what is chosen by a test. Assumes nothing.
 use mathlib.Core.Path.{_≡_, refl}
 use mathlib.Core.Bool.{Bool, true, false, cond, _&&_, _||_}
 
@@ -18,3 +18,8 @@ choose test false x y p q = q
 pub neither : (a b : Bool) → (a || b) ≡ false → (a ≡ false) × (b ≡ false)
 neither true b p = (p, cc)
 neither false b p = (refl, p)
+
+-- what holds of each side where the test comes out so holds of the choice
+pub by-test : {A : Type 0} (P : A → Type 0) (b : Bool) (x y : A) → (b ≡ true → P x) → (b ≡ false → P y) → P (cond b x y)
+by-test P true x y p q = p refl
+by-test P false x y p q = q refl

@@ -3,3 +3,4 @@ pub mod Conjunction
 pub mod BitLaws
 pub mod BitSolve
 pub mod Within
+pub mod SameLaws

@@ -8,6 +8,7 @@ use Rattle.registers.specs.Status.{tvm}
 use Rattle.csr.specs.declared.Operation.{Operation}
 use Rattle.csr.specs.declared.Operation.the-variants.{Write, Set, Clear, Read}
 
+-- a number from first to last, both included
 abbrev pub between : ℕ → ℕ → ℕ → Bool
 between first last n = leb first n && leb n last
 
@@ -53,6 +54,7 @@ counterHidden r n =
 abbrev pub translationTrapped : Registers → ℕ → Bool
 translationTrapped r n = eqb n 0x180 && (eqb (r .mode) 1 && tvm (r .mstatus))
 
+-- illegal instruction when: the number is not present; mode is below bits 9:8; a write attempt has bits 11:10 = 3; 180; the counters
 unfoldable pub illegal : Registers → Operation → ℕ → Bool
 illegal r operation n =
     not (present n) || (ltb (r .mode) (lowestMode n) || ((attemptsWrite operation && readOnly n)

@@ -61,6 +61,7 @@ supervisorWritten r n value =
     (replaced (bitAnd (r .interrupts .mideleg) 0x2) value (r .interrupts .mip)) (r .interrupts .lines))
     (withLevel Supervisor r (levelWritten (r .supervisor) (n % 256) value))))
 
+-- B00 and B02 take any 64 bits
 abbrev pub counterWritten : Registers → ℕ → ℕ → Registers
 counterWritten r n value =
     withCounters r (r .counters .mcountinhibit)
@@ -92,9 +93,11 @@ abbrev pub addressFrozen : List ℕ → ℕ → Bool
 addressFrozen cfgs i =
     locked (getD cfgs i 0) || (locked (getD cfgs (i + 1) 0) && eqb (fieldA (getD cfgs (i + 1) 0)) 1)
 
+-- 54 bits are kept
 abbrev pub addressWritten : List ℕ → ℕ → ℕ → ℕ → ℕ
 addressWritten cfgs i old value = cond (addressFrozen cfgs i) old (value % 2 ^ 54)
 
+-- the protection registers, by number
 unfoldable pub pmpWritten : Pmp → ℕ → ℕ → Pmp
 pmpWritten p n value =
     cond (eqb n 0x3A0) (record { cfgs = configsWritten 8 0 value (p .cfgs); addrs = p .addrs })
@@ -113,6 +116,7 @@ registersWritten r n value =
     (cond (eqb (n / 256) 0x1) (supervisorWritten r n value)
     (cond (eqb (n / 256) 0xB) (counterWritten r n value) r))
 
+-- a write to any number
 unfoldable pub stored : State → ℕ → ℕ → State
 stored s n value =
     cond (isPmp n)

@@ -6,6 +6,7 @@ use mathlib.Core.List.{List}
 use mathlib.Core.Logic.{_⊎_, inl, inr, ⊎-elim}
 use lib.Dec.{leb, ltb, eqb}
 use lib.ListN.{getD}
+use Rattle.bits.proofs.Conjunction.{by-test}
 use Rattle.pmp.specs.declared.Mode.{Mode}
 use Rattle.pmp.specs.declared.Mode.the-variants.{User, Supervisor, Machine}
 use Rattle.pmp.specs.declared.Access.{Access}
@@ -19,17 +20,15 @@ use Rattle.pmp.specs.Rule.{permission, byPermission, entryDecides, noneDecides,
 abbrev pub GrantOrFault : Access → Decision → Type 0
 GrantOrFault access d = (d ≡ Granted) ⊎ (d ≡ Fault (faultCause access))
 
-either : (access : Access) (b : Bool) (x y : Decision) → GrantOrFault access x → GrantOrFault access y → GrantOrFault access (cond b x y)
-either access true x y p q = p
-either access false x y p q = q
-
 by-permission : (access : Access) (cfg : ℕ) → GrantOrFault access (byPermission access cfg)
-by-permission access cfg = either access (eqb (permission access cfg) 1) Granted (Fault (faultCause access)) (inl refl) (inr refl)
+by-permission access cfg =
+    by-test (GrantOrFault access) (eqb (permission access cfg) 1) Granted (Fault (faultCause access)) (λ t. inl refl) (λ t. inr refl)
 
 by-entry : (mode : Mode) (access : Access) (cfg : ℕ) → GrantOrFault access (entryDecides mode access cfg)
 by-entry User access cfg = by-permission access cfg
 by-entry Supervisor access cfg = by-permission access cfg
-by-entry Machine access cfg = either access (eqb (cfg / 128) 0) Granted (byPermission access cfg) (inl refl) (by-permission access cfg)
+by-entry Machine access cfg =
+    by-test (GrantOrFault access) (eqb (cfg / 128) 0) Granted (byPermission access cfg) (λ t. inl refl) (λ t. by-permission access cfg)
 
 by-none : (mode : Mode) (access : Access) → GrantOrFault access (noneDecides mode access)
 by-none User access = inr refl
@@ -41,13 +40,17 @@ pub rule-answers : (cfgs addrs : List ℕ) (mode : Mode) (access : Access) (addr
 unfolding byteRule
 rule-answers cfgs addrs mode access address size =
     let i = lowestMatch cfgs addrs address size in
-    either access (anyByte (leb top) size address) (Fault (faultCause access)) (matchDecides cfgs addrs mode access address size i) (inr refl)
-    (either access (ltb i 16)
+    by-test (GrantOrFault access) (anyByte (leb top) size address) (Fault (faultCause access))
+    (matchDecides cfgs addrs mode access address size i)
+    (λ t. inr refl)
+    (λ t.
+    by-test (GrantOrFault access) (ltb i 16)
     (cond (everyByte (matches cfgs addrs i) size address) (entryDecides mode access (getD cfgs i 0)) (Fault (faultCause access)))
     (noneDecides mode access)
-    (either access (everyByte (matches cfgs addrs i) size address) (entryDecides mode access (getD cfgs i 0)) (Fault (faultCause access))
-    (by-entry mode access (getD cfgs i 0)) (inr refl))
-    (by-none mode access))
+    (λ u.
+    by-test (GrantOrFault access) (everyByte (matches cfgs addrs i) size address) (entryDecides mode access (getD cfgs i 0))
+    (Fault (faultCause access)) (λ v. by-entry mode access (getD cfgs i 0)) (λ v. inr refl))
+    (λ u. by-none mode access))
 
 abbrev isRefusal : Decision → Bool
 isRefusal Granted = false

@@ -15,8 +15,9 @@ use Rattle.pmp.specs.Rule.{isSize, byteRule, checked}
 use Rattle.registers.specs.Hold.{resetPmp}
 use Rattle.map.specs.declared.Map.{Map}
 use Rattle.map.specs.Lookup.{findRange, rangesIn}
-use Rattle.map.specs.Ranges.{rangesOf, compiled}
-use Rattle.map.proofs.MapLaws.{compiled-count, compiled-ranges}
+use Rattle.map.specs.Ranges.{rangesOf, IsMap}
+use Rattle.map.proofs.Lawful.{unique}
+use Rattle.map.proofs.MapLaws.{is-map, compiled-count, compiled-ranges}
 use Rattle.map.proofs.QueryLaws.{query-rule, size-refused, one-range}
 use Rattle.text.specs.Text.{readText}
 use Rattle.hart.specs.declared.Hart.{Hart}
@@ -28,7 +29,8 @@ use Rattle.hart.specs.Steps.{mapFor, resetMapped, handedBack}
 use Rattle.hart.specs.Saved.{hartOf, restored, restoredWords, restoredDone}
 use Rattle.hart.specs.Queries.{queryAnswer}
 use Rattle.hart.specs.Runs.{afterAll, leftBy}
-use Rattle.hart.specs.Asked.{ruleAfter, refusalOf, readBack, ruleFromText}
+use Rattle.hart.specs.Refusals.{refusalOf}
+use Rattle.hart.specs.Asked.{ruleAfter, readBack, ruleFromText}
 use Rattle.hart.specs.Faithful.{FromText, Start, cfgsAfter, addrsAfter, answerAfter, FaithfulAfter, OneRange, Faithful}
 use Rattle.hart.proofs.Kept.{mapped, kept-all}
 use Rattle.hart.proofs.Answered.{rule-answers, unrefused}
@@ -119,11 +121,18 @@ module _ (start : Mapped) (sound : Sound start) (steps : List Step) where
           (ap (λ (l : Mapped). queryAnswer (l .hart) (l .map) mode access address size) left
           ∙ size-query (afterAll (start .hart) steps) mode access address size (after-holds steps (start .hart) (sound .held)) q)
 
+  ranges-left : take (leftBy (start .hart) (start .map) steps .map .count) (leftBy (start .hart) (start .map) steps .map .ranges)
+      ≡ rangesOf (cfgsAfter start steps) (addrsAfter start steps)
+  ranges-left =
+      ap (λ (l : Mapped). take (l .map .count) (l .map .ranges)) left ∙ compiled-ranges (cfgsAfter start steps) (addrsAfter start steps)
+
   pub faithful-after : FaithfulAfter start steps
   faithful-after =
       record {
-        ranges =
-            ap (λ (l : Mapped). take (l .map .count) (l .map .ranges)) left ∙ compiled-ranges (cfgsAfter start steps) (addrsAfter start steps);
+        state = ap (λ (l : Mapped). l .hart) left;
+        lawful =
+            subst (IsMap (cfgsAfter start steps) (addrsAfter start steps)) (sym ranges-left) (is-map (cfgsAfter start steps) (addrsAfter start steps));
+        ranges = ranges-left;
         count =
             subst (λ (l : Mapped). l .map .count ≤ 33) (sym left) (compiled-count (cfgsAfter start steps) (addrsAfter start steps));
         answers = answers-rule;
@@ -143,6 +152,7 @@ pub faithful : Faithful
 faithful =
     record {
       after = λ start s steps. faithful-after start (start-sound start s) steps;
+      one-map = unique;
       one-range = query-one-range;
     }
 

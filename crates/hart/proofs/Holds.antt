@@ -6,7 +6,7 @@ use mathlib.Core.List.{List, [], _∷_}
 use mathlib.Core.Logic.{_⊎_, ⊎-elim}
 use native.Mathlib.Omega.{arith}
 use lib.Dec.{ltb}
-use Rattle.bits.proofs.Conjunction.{both, join}
+use Rattle.bits.proofs.Conjunction.{both, join, by-test}
 use Rattle.pmp.specs.declared.Mode.{Mode}
 use Rattle.pmp.specs.declared.Access.{Access}
 use Rattle.pmp.specs.declared.Access.the-variants.{Fetch, Load, Store}
@@ -74,10 +74,6 @@ pub reset-holds : canHold resetHart ≡ true
 unfolding canHold
 reset-holds = join (registersHoldable (resetHart .registers)) (pmpHoldable (resetHart .pmp)) reset-held reset-pmp-held
 
-either : (b : Bool) (x y : Effect) → Holds x → Holds y → Holds (cond b x y)
-either true x y p q = p
-either false x y p q = q
-
 cause-bound : (access : Access) → faultCause access < 64
 cause-bound Fetch = omega arith
 cause-bound Load = omega arith
@@ -102,13 +98,15 @@ module _ (h : Hart) (p : canHold h ≡ true) where
   csr-holds op number operand =
       let s = operation (stateOf h) op number operand in
       let q : registersHoldable (s .registers) ≡ true = csr-laws.registers-kept (stateOf h) op number operand registers-held in
-      either (ltb 4095 number) (refused h 2)
+      by-test Holds (ltb 4095 number) (refused h 2)
       (cond (illegal (h .registers) op number) (onRegisters h (illegalInstruction (h .registers))) (csrCompleted h (shown (stateOf h) number) s))
-      p
-      (either (illegal (h .registers) op number) (onRegisters h (illegalInstruction (h .registers)))
+      (λ t. p)
+      (λ t.
+      by-test Holds (illegal (h .registers) op number) (onRegisters h (illegalInstruction (h .registers)))
       (csrCompleted h (shown (stateOf h) number) s)
-      (on-registers _ (illegal-instruction-holdable (h .registers) registers-held))
-      (join (registersHoldable (withPc (s .registers) (nextPc (h .registers)))) (pmpHoldable (s .pmp))
+      (λ u. on-registers _ (illegal-instruction-holdable (h .registers) registers-held))
+      (λ u.
+      join (registersHoldable (withPc (s .registers) (nextPc (h .registers)))) (pmpHoldable (s .pmp))
       (pc-holdable (s .registers) q (nextPc (h .registers)) (next-aligned (h .registers .pc) (held (h .registers) registers-held .pc)))
       (csr-laws.pmp-kept (stateOf h) op number operand pmp-kept)))
 
@@ -156,7 +154,7 @@ module _ (h : Hart) (p : canHold h ≡ true) where
 
   pub judged-holds : (s : Step) → Holds (judged h s)
   unfolding judged
-  judged-holds s = either (isReset s || canHold h) (effect h s) (refused h 3) (effect-holds s) p
+  judged-holds s = by-test Holds (isReset s || canHold h) (effect h s) (refused h 3) (λ t. effect-holds s) (λ t. p)
 
 -- over any list of steps
 pub after-holds : (steps : List Step) (h : Hart) → canHold h ≡ true → canHold (afterAll h steps) ≡ true

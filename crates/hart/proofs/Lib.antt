@@ -6,5 +6,7 @@ pub mod Kept
 pub mod Texts
 pub mod SavedLaws
 pub mod Answered
+pub mod RefusalLaws
 pub mod Holds
+pub mod StepKeeping
 pub mod Faithfulness

@@ -114,8 +114,8 @@ restored-saved g h map m text b e room =
     )
 
 one-text : OneText
-one-text f g h map m n text other d e =
-    text-reads f h map m text d .is-text ∙ sym (text-reads g h map n other e .is-text)
+one-text f g h map map′ m n text other d e =
+    text-reads f h map m text d .is-text ∙ sym (text-reads g h map′ n other e .is-text)
 
 pub lossless : Lossless
 lossless = record { saved-restored = saved-restored; restored-saved = restored-saved; one-text = one-text }

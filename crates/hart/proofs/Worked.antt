@@ -16,4 +16,4 @@ pub worked : AllRight settings
 unfolding lowest anyByte everyByte trailingOnes spanOf lowestMatch byteRule checked painted rangesOf
     registersHoldable pmpHoldable all enteredStatus entered raised takeable interruptTaken returnedStatus returned returnStep elapsed canHold judged
 worked =
-    (λ mode access. refl, (refl, (refl, (refl, (refl, (refl, (refl, (refl, (refl, (refl, (refl, (refl, (refl, (refl, (refl, (refl, tt))))))))))))))))
+    (λ mode access. refl, (refl, (refl, (refl, (refl, (refl, (refl, (refl, (refl, (refl, (refl, (refl, (refl, (refl, (refl, (refl, (refl, tt)))))))))))))))))

@@ -8,12 +8,11 @@ use Rattle.pmp.specs.declared.Access.{Access}
 use Rattle.pmp.specs.declared.Decision.{Decision}
 use Rattle.pmp.specs.declared.Decision.the-variants.{Refused}
 use Rattle.pmp.specs.Rule.{checked}
-use Rattle.trap.specs.declared.Answer.{Answer}
-use Rattle.trap.specs.declared.Answer.the-variants.{Done, DoneValue, DoneFlag, Granted, Trapped, Refused as RefusedStep}
 use Rattle.hart.specs.declared.Hart.{Hart}
 use Rattle.hart.specs.declared.Step.{Step}
 use Rattle.hart.specs.declared.Stepped.{Stepped}
 use Rattle.hart.specs.Steps.{resetMapped}
+use Rattle.hart.specs.Refusals.{refusalOf}
 use Rattle.hart.specs.Saved.{restored}
 use Rattle.hart.specs.Runs.{afterAll}
 
@@ -21,15 +20,6 @@ use Rattle.hart.specs.Runs.{afterAll}
 abbrev pub ruleAfter : Hart → List Step → Mode → Access → ℕ → ℕ → Decision
 ruleAfter h steps mode access address size =
     checked (afterAll h steps .pmp .cfgs) (afterAll h steps .pmp .addrs) mode access address size
-
--- the number of a refusal, and 0 for any other answer
-abbrev pub refusalOf : Answer → ℕ
-refusalOf Done = 0
-refusalOf (DoneValue old) = 0
-refusalOf (DoneFlag flag) = 0
-refusalOf Granted = 0
-refusalOf (Trapped trap level) = 0
-refusalOf (RefusedStep number) = number
 
 -- what reading a text back gives, where nothing stood before
 abbrev pub readBack : List ℕ → Stepped

@@ -7,7 +7,6 @@ use Rattle.pmp.specs.declared.Access.the-variants.{Fetch, Load, Store}
 use Rattle.pmp.specs.declared.Decision.{Decision}
 use Rattle.pmp.specs.Rule.{checked}
 use Rattle.registers.specs.declared.Level.{Level}
-use Rattle.registers.specs.declared.Registers.{Registers}
 use Rattle.registers.specs.Hold.{registersHoldable, pmpHoldable, resetRegisters, resetPmp}
 use Rattle.registers.specs.Update.{withPc}
 use Rattle.registers.specs.Effective.{effectiveMode}
@@ -32,9 +31,11 @@ use Rattle.hart.specs.declared.Effect.{Effect}
 unfoldable pub canHold : Hart → Bool
 canHold h = registersHoldable (h .registers) && pmpHoldable (h .pmp)
 
+-- 01, "What a hart can hold": reset
 abbrev pub resetHart : Hart
 resetHart = record { registers = resetRegisters; pmp = resetPmp }
 
+-- a hart with an answer
 abbrev pub effectOf : Hart → Answer → Effect
 effectOf h answer = record { hart = h; answer = answer }
 
@@ -46,6 +47,7 @@ refused h number = effectOf h (Refused number)
 abbrev pub onRegisters : Hart → Outcome → Effect
 onRegisters h o = effectOf (record { registers = o .registers; pmp = h .pmp }) (o .answer)
 
+-- the registers as the CSR rules take them
 abbrev pub stateOf : Hart → State
 stateOf h = record { registers = h .registers; pmp = h .pmp }
 
@@ -81,7 +83,7 @@ accessStep h Fetch address size = accessAt h Fetch (h .registers .pc) 4
 accessStep h Load address size = accessAt h Load address size
 accessStep h Store address size = accessAt h Store address size
 
--- what each step does to a state that a hart can hold
+-- what each step does where refusal 3 does not apply
 abbrev pub effect : Hart → Step → Effect
 effect h Reset = effectOf resetHart Done
 effect h (Csr op number operand) = csrStep h op number operand
@@ -97,6 +99,7 @@ effect h (Advance target) = onRegisters h (advanced (h .registers) target)
 effect h (AccessStep access address size) = accessStep h access address size
 effect h (Elapsed cycles retired) = onRegisters h (elapsed (h .registers) cycles retired)
 
+-- step 0
 abbrev pub isReset : Step → Bool
 isReset Reset = true
 isReset (Csr op number operand) = false

@@ -11,8 +11,9 @@ use Rattle.pmp.specs.declared.Decision.{Decision}
 use Rattle.pmp.specs.declared.Decision.the-variants.{Refused}
 use Rattle.pmp.specs.Rule.{isSize, byteRule}
 use Rattle.map.specs.declared.Map.{Map}
+use Rattle.map.specs.declared.Range.{Range}
 use Rattle.map.specs.Lookup.{findRange, rangesIn}
-use Rattle.map.specs.Ranges.{rangesOf}
+use Rattle.map.specs.Ranges.{rangesOf, IsMap}
 use Rattle.trap.specs.declared.Answer.the-variants.{Done}
 use Rattle.hart.specs.declared.Hart.{Hart}
 use Rattle.hart.specs.declared.Mapped.{Mapped}
@@ -48,7 +49,12 @@ answerAfter start steps mode access address size =
 
 -- the claim for one start and one list of steps
 pub record FaithfulAfter (start : Mapped) (steps : List Step) : Type 0 where
-  -- the map left, up to its count, is the one list of ranges for these registers, at most 33
+  -- the state left is the one that the step rules and the refusal table make
+  pub state : leftBy (start .hart) (start .map) steps .hart ≡ afterAll (start .hart) steps
+  -- the map left, up to its count, is a list of ranges as 01 lays it down for these registers, the computed one, and at most 33
+  pub lawful :
+      IsMap (cfgsAfter start steps) (addrsAfter start steps)
+      (take (leftBy (start .hart) (start .map) steps .map .count) (leftBy (start .hart) (start .map) steps .map .ranges))
   pub ranges :
       take (leftBy (start .hart) (start .map) steps .map .count) (leftBy (start .hart) (start .map) steps .map .ranges)
       ≡ rangesOf (cfgsAfter start steps) (addrsAfter start steps)
@@ -72,4 +78,6 @@ OneRange =
 -- demand 3
 pub record Faithful : Type 0 where
   pub after : (start : Mapped) → Start start → (steps : List Step) → FaithfulAfter start steps
+  -- there is one such list
+  pub one-map : (cfgs addrs : List ℕ) (ranges others : List Range) → IsMap cfgs addrs ranges → IsMap cfgs addrs others → ranges ≡ others
   pub one-range : OneRange

@@ -1,6 +1,8 @@
 -- The definitions that the contracts cite.
 pub mod Effects
 pub mod Steps
+pub mod Refusals
+pub mod Keeps
 pub mod Queries
 pub mod Saved
 pub mod Texts

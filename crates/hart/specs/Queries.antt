@@ -1,4 +1,4 @@
--- 01, "Protection": the access query, which reads one range of a map.
+-- 01, "Protection, byte by byte": the access query, which reads one range of a map.
 use Prim.Native.Nat.{ℕ}
 use mathlib.Core.Bool.{cond}
 use Rattle.pmp.specs.declared.Mode.{Mode}

@@ -34,8 +34,8 @@ RestoredSaved =
 -- two texts that read back as the same state are the same text
 abbrev pub OneText : Type 0
 OneText =
-    (f g h : Hart) (map m n : Map) (text other : List ℕ)
-    → restored f map text ≡ handedBack m (effectOf h Done) → restored g map other ≡ handedBack n (effectOf h Done)
+    (f g h : Hart) (map map′ m n : Map) (text other : List ℕ)
+    → restored f map text ≡ handedBack m (effectOf h Done) → restored g map′ other ≡ handedBack n (effectOf h Done)
     → text ≡ other
 
 -- the text claim of demand 2

@@ -2,7 +2,7 @@
 use Prim.Native.Nat.{ℕ, zero, suc, _+_, _-_, _*_, _^_}
 use mathlib.Core.Path.{_≡_}
 use mathlib.Core.List.{List, [], _∷_}
-use lib.ListN.{replicate}
+use lib.ListN.{length, replicate}
 use Rattle.pmp.specs.declared.Mode.{Mode}
 use Rattle.pmp.specs.declared.Access.{Access}
 use Rattle.pmp.specs.declared.Decision.the-variants.{Fault}
@@ -11,10 +11,9 @@ use Rattle.pmp.specs.Entry.{entrySpan}
 use Rattle.pmp.specs.Rule.{checked, none}
 use Rattle.registers.specs.declared.Registers.{Registers}
 use Rattle.registers.specs.Hold.{resetRegisters, resetPmp}
-use Rattle.registers.specs.Update.{withStatus, withInterrupts, withCounters}
+use Rattle.registers.specs.Update.{withStatus, withCounters}
 use Rattle.map.specs.declared.Range.{Range}
 use Rattle.map.specs.Ranges.{range, rangesOf}
-use Rattle.hart.specs.declared.Hart.{Hart}
 use Rattle.hart.specs.declared.Step.{Step}
 use Rattle.hart.specs.declared.Step.the-variants.{Mret, TakeInterrupt, Elapsed}
 use Rattle.hart.specs.Effects.{judged}
@@ -26,6 +25,8 @@ pub data Setting : Type 0 where
   matches : (cfg addr first last : ℕ) → Setting
   -- sixteen entries have this map
   mapped : (cfgs addrs : List ℕ) → List Range → Setting
+  -- sixteen entries have this many ranges
+  counted : (cfgs addrs : List ℕ) → ℕ → Setting
   -- after the step a register has this value
   leaves : Registers → Step → (Registers → ℕ) → ℕ → Setting
 
@@ -33,11 +34,13 @@ pub data Setting : Type 0 where
 abbrev pub alone : ℕ → List ℕ
 alone x = x ∷ replicate 15 0
 
+-- what a setting says
 abbrev pub Right : Setting → Type 0
 Right (faults cfg addr address size) =
     (mode : Mode) (access : Access) → checked (alone cfg) (alone addr) mode access address size ≡ Fault (faultCause access)
 Right (matches cfg addr first last) = entrySpan (alone cfg) (alone addr) 0 ≡ record { low = first; high = last + 1 }
 Right (mapped cfgs addrs ranges) = rangesOf cfgs addrs ≡ ranges
+Right (counted cfgs addrs n) = length (rangesOf cfgs addrs) ≡ n
 Right (leaves r s register value) = register (judged (record { registers = r; pmp = resetPmp }) s .hart .registers) ≡ value
 
 abbrev pub AllRight : List Setting → Type 0
@@ -51,8 +54,8 @@ tor = 0x0F
 abbrev pub na4 : ℕ
 na4 = 0x17
 
-abbrev pub naturalPower : ℕ
-naturalPower = 0x1F
+abbrev pub napot : ℕ
+napot = 0x1F
 
 -- 1, 3, .. 31
 abbrev pub odd : List ℕ
@@ -77,25 +80,28 @@ interrupted mtvec =
       supervisor = resetRegisters .supervisor;
     }
 
+-- mcycle alone set
 abbrev pub cycling : ℕ → Registers
 cycling mcycle = withCounters resetRegisters 0 mcycle 0
 
+-- the table
 abbrev pub settings : List Setting
 settings =
     -- W1
     faults na4 3 0x8 8
     -- W2 to W6
-    ∷ matches naturalPower 0 0 7
-    ∷ matches naturalPower 0x20000FFF 0x80000000 0x80007FFF
-    ∷ matches naturalPower (2 ^ 52 - 1) 0 (2 ^ 55 - 1)
-    ∷ matches naturalPower (2 ^ 53 - 1) 0 (2 ^ 56 - 1)
-    ∷ matches naturalPower (2 ^ 54 - 1) 0 (2 ^ 56 - 1)
+    ∷ matches napot 0 0 7
+    ∷ matches napot 0x20000FFF 0x80000000 0x80007FFF
+    ∷ matches napot (2 ^ 52 - 1) 0 (2 ^ 55 - 1)
+    ∷ matches napot (2 ^ 53 - 1) 0 (2 ^ 56 - 1)
+    ∷ matches napot (2 ^ 54 - 1) 0 (2 ^ 56 - 1)
     ∷ matches tor (2 ^ 54 - 1) 0 (2 ^ 56 - 5)
     -- W7 to W9
-    ∷ mapped (replicate 16 0) (replicate 16 0) (range 0 (2 ^ 56 - 1) none ∷ [])
-    ∷ mapped (na4 ∷ naturalPower ∷ replicate 14 0) (3 ∷ 0x1FF ∷ replicate 14 0)
+    ∷ mapped (resetPmp .cfgs) (resetPmp .addrs) (range 0 (2 ^ 56 - 1) none ∷ [])
+    ∷ mapped (na4 ∷ napot ∷ replicate 14 0) (3 ∷ 0x1FF ∷ replicate 14 0)
     (range 0 0xB 1 ∷ range 0xC 0xF 0 ∷ range 0x10 0xFFF 1 ∷ range 0x1000 (2 ^ 56 - 1) none ∷ [])
     ∷ mapped (replicate 16 na4) odd (alternating 16 0)
+    ∷ counted (replicate 16 na4) odd 33
     -- W10
     ∷ leaves (withStatus resetRegisters 0xA00020880) Mret (λ r. r .mstatus) 0xA00000088
     ∷ leaves (withStatus resetRegisters 0xA00020880) Mret (λ r. r .mode) 1

@@ -10,7 +10,8 @@ ghost use Rattle.hart.specs.Effects.{resetHart};
 ghost use Rattle.hart.specs.Decode.{stepsOf};
 ghost use Rattle.hart.specs.Queries.{queryAnswer};
 ghost use Rattle.hart.specs.Runs.{leftBy};
-ghost use Rattle.hart.specs.Asked.{ruleAfter, refusalOf, ruleFromText};
+ghost use Rattle.hart.specs.Refusals.{refusalOf};
+ghost use Rattle.hart.specs.Asked.{ruleAfter, ruleFromText};
 
 impl Hart {
     // Runs the steps, three numbers each, and asks.

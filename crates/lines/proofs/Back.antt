@@ -15,7 +15,7 @@ use lib.ListN.{length, getD, drop, drop-of-length-le, length-map}
 use lib.Seq.{getD-drop, drop-drop, drop-cons}
 use Rattle.lines.specs.Lines.{hexDigit, hexDigits, linesOf, digitValue, numberAt, hasRoom, wordAt, placesOf, wordsOf, isText}
 use Rattle.lines.proofs.Digits.{number-fits, value-below}
-use Rattle.lines.proofs.Bytes.{same-true, same-eq}
+use Rattle.bits.proofs.SameLaws.{same-refl, same-eq}
 
 -- n words of 64 bits
 pub record Words (n : ℕ) (ws : List ℕ) : Type 0 where
@@ -121,4 +121,4 @@ module _ (ks : List String) (n : ℕ) (found : (ws : List ℕ) → wordsOf ks (l
   -- the text of words is in the form
   pub is-text : (ws : List ℕ) → Words n ws → isText ks (linesOf ks 0 ws) ≡ true
   unfolding isText
-  is-text ws w = rw (words-back ws w) (same-true (linesOf ks 0 ws))
+  is-text ws w = rw (words-back ws w) (same-refl (linesOf ks 0 ws))

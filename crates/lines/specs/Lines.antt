@@ -6,6 +6,7 @@ use mathlib.Core.Bool.{Bool, true, false, cond, _&&_}
 use mathlib.Core.List.{List, [], _∷_, _++_, map}
 use lib.Dec.{leb, ltb, eqb}
 use lib.ListN.{length, getD}
+use Rattle.bits.specs.Same.{sameList}
 
 unfoldable pub bytesOf : String → List ℕ
 bytesOf []ˢ = []
@@ -58,12 +59,6 @@ placesOf (k ∷ ks) p = (p + length (bytesOf k) + 1) ∷ placesOf ks (p + length
 unfoldable pub wordsOf : List String → List ℕ → List ℕ
 wordsOf ks t = map (wordAt t) (placesOf ks 0)
 
-unfoldable pub sameBytes : List ℕ → List ℕ → Bool
-sameBytes [] [] = true
-sameBytes [] (b ∷ t) = false
-sameBytes (a ∷ s) [] = false
-sameBytes (a ∷ s) (b ∷ t) = eqb a b && sameBytes s t
-
 -- a text in the form of the keys: it is the text of the words in it
 unfoldable pub isText : List String → List ℕ → Bool
-isText ks t = sameBytes t (linesOf ks 0 (wordsOf ks t))
+isText ks t = sameList t (linesOf ks 0 (wordsOf ks t))

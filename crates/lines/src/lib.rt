@@ -4,7 +4,8 @@ ghost use mathlib.Core.List.{map};
 ghost use Prim.Native.Nat.{_+_, _≤_, _<_, _%_};
 ghost use lib.ListN.{length, getD};
 ghost use lib.Seq.{sets};
-ghost use Rattle.lines.specs.Lines.{hexDigit, hexDigits, digitValue, numberAt, hasRoom, wordAt, sameBytes};
+ghost use Rattle.lines.specs.Lines.{hexDigit, hexDigits, digitValue, numberAt, hasRoom, wordAt};
+ghost use Rattle.bits.specs.Same.{sameList};
 ghost use Rattle.lines.specs.Places.{withWord, withWords};
 
 // The lower-case hexadecimal digit of the lowest four bits.
@@ -120,7 +121,7 @@ pub fn read_words(places: &[usize], text: &[u8], words: &mut [u64])
 
 // Whether two texts hold the same bytes. Every byte is looked at: without an early end the loop runs many bytes at a time.
 pub fn same_bytes(a: &[u8], b: &[u8]) -> bool
-    ensures { λ r. ⌜ r ≡ sameBytes (now (a .entry)) (now (b .entry)) ⌝ }
+    ensures { λ r. ⌜ r ≡ sameList (now (a .entry)) (now (b .entry)) ⌝ }
 {
     if a.len() != b.len() {
         return false;

@@ -1,4 +1,4 @@
--- 01, "Protection" and "What has to be nailed": the range of a map that holds a byte.
+-- 01, "Protection, byte by byte" and "What has to be nailed": the range of a map that holds a byte.
 use Prim.Native.Nat.{ℕ, min}
 use mathlib.Core.Bool.{Bool, cond, _&&_}
 use mathlib.Core.List.{List, [], _∷_}

@@ -1,4 +1,4 @@
--- 01, "Protection": "An access query on it takes a state, a map of up to 33 ranges, an effective mode, kind, address and size".
+-- 01, "Protection, byte by byte": "An access query on it takes a state, a map of up to 33 ranges, an effective mode, kind, address and size".
 use Prim.Native.Nat.{ℕ}
 use mathlib.Core.Bool.{cond}
 use mathlib.Core.List.{List}

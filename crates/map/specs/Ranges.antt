@@ -1,4 +1,4 @@
--- 01, "Protection": "The map lists ranges (first byte, last byte, owner), owner being the lowest entry matching each byte or none."
+-- 01, "Protection, byte by byte": "The map lists ranges (first byte, last byte, owner), owner being the lowest entry matching each byte or none."
 use Prim.Native.Nat.{ℕ, zero, suc, _-_, _≤_, _<_, min, max}
 use mathlib.Core.Path.{_≡_}
 use mathlib.Core.Bool.{cond}

@@ -1,4 +1,4 @@
--- The lowest number, some byte and every byte that pass a test.
+-- 01, "Protection, byte by byte": the lowest entry, any byte and all bytes that pass a test.
 use Prim.Native.Nat.{ℕ, zero, suc}
 use mathlib.Core.Bool.{Bool, true, false, cond, _&&_, _||_}
 

@@ -1,4 +1,4 @@
--- 01, "Protection": the effective mode of an access.
+-- 01, "Protection, byte by byte": the effective mode of an access.
 use Prim.Native.Nat.{ℕ}
 use mathlib.Core.Bool.{Bool, cond}
 use lib.Dec.{eqb}

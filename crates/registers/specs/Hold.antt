@@ -57,13 +57,14 @@ unfoldable pub all : (ℕ → Bool) → List ℕ → Bool
 all test [] = true
 all test (x ∷ xs) = test x && all test xs
 
+-- the protection registers
 unfoldable pub pmpHoldable : Pmp → Bool
 pmpHoldable p = all configHoldable (p .cfgs) && all addressHoldable (p .addrs)
 
--- Reset: mode 3, pc 0x1000 (house), mstatus 0xA00000000, all else 0
 abbrev zeroLevel : LevelRegisters
 zeroLevel = record { tvec = 0; counteren = 0; scratch = 0; epc = 0; cause = 0; tval = 0 }
 
+-- Reset: mode 3, pc 0x1000 (house), mstatus 0xA00000000, all else 0
 abbrev pub resetRegisters : Registers
 resetRegisters =
     record {

@@ -1,17 +1,8 @@
--- Whether two values of the protection registers are the same.
-use Prim.Native.Nat.{ℕ}
-use mathlib.Core.Bool.{Bool, true, false, _&&_}
-use mathlib.Core.List.{List, [], _∷_}
-use lib.Dec.{eqb}
+-- 01, "Steps": whether a PMP byte or pmpaddr differs.
+use mathlib.Core.Bool.{Bool, _&&_}
+use Rattle.bits.specs.Same.{sameList}
 use Rattle.registers.specs.declared.Pmp.{Pmp}
 
--- the same length, and the same element at each place
-unfoldable pub sameList : List ℕ → List ℕ → Bool
-sameList [] [] = true
-sameList [] (y ∷ ys) = false
-sameList (x ∷ xs) [] = false
-sameList (x ∷ xs) (y ∷ ys) = eqb x y && sameList xs ys
-
--- 01, "Steps": no PMP byte and no pmpaddr differs
+-- no PMP byte and no pmpaddr differs
 unfoldable pub samePmp : Pmp → Pmp → Bool
 samePmp a b = sameList (a .cfgs) (b .cfgs) && sameList (a .addrs) (b .addrs)

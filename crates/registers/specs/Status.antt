@@ -1,4 +1,4 @@
--- The fields of mstatus, by level where both have one.
+-- 01, "What a hart can hold" and "Traps, returns, time": the fields of mstatus, by level where both have one.
 use Prim.Native.Nat.{ℕ, _/_}
 use mathlib.Core.Bool.{Bool}
 use lib.Bits.{bitAnd}

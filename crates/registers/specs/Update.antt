@@ -1,4 +1,4 @@
--- The registers with one group replaced.
+-- The registers of 01, "What a hart can hold", with one group replaced.
 use Prim.Native.Nat.{ℕ}
 use Rattle.registers.specs.declared.Level.{Level}
 use Rattle.registers.specs.declared.Level.the-variants.{Supervisor, Machine}

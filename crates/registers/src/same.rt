@@ -1,7 +1,8 @@
 // Whether a step changed the protection registers. It runs at every step, mostly on equal ones, so it does not branch.
 use crate::Pmp;
 ghost use mathlib.Core.Path.{_≡_};
-ghost use Rattle.registers.specs.Same.{sameList, samePmp};
+ghost use Rattle.bits.specs.Same.{sameList};
+ghost use Rattle.registers.specs.Same.{samePmp};
 
 fn same_configs(a: [u8; 16], b: [u8; 16]) -> bool
     ensures { λ r. ⌜ r ≡ sameList a b ⌝ }

@@ -6,7 +6,8 @@ use mathlib.Core.List.{List, [], _++_, map}
 use borrow.Author.Tests.{le-leb}
 use lib.ListN.{length, take, drop, replicate}
 use lib.Seq.{sets, take-length}
-use Rattle.lines.specs.Lines.{bytesOf, hexDigits, lineOf, linesOf, numberAt, wordAt, placesOf, wordsOf, sameBytes, isText}
+use Rattle.lines.specs.Lines.{bytesOf, hexDigits, lineOf, linesOf, numberAt, wordAt, placesOf, wordsOf, isText}
+use Rattle.bits.specs.Same.{sameList}
 use Rattle.lines.specs.Places.{withWord, withWords}
 use Rattle.lines.proofs.Back.{reread, elements}
 use Rattle.text.specs.Text.{keys, textOf, writtenTo, given, refused, readText}
@@ -41,7 +42,7 @@ text-copied ws b t x h e d =
     rw (le-leb 1027 (length b) h) (d ∙ rw (take-length t, n, e))
 
 -- the answer of the reader, where r tells whether the text is that of the words found in it
-pub text-judged : (t ws u : List ℕ) (r : Bool) → ws ≡ sets (replicate 41 0) 0 (map (wordAt t) (placesOf keys 0)) → u ≡ textOf ws → r ≡ sameBytes t u
+pub text-judged : (t ws u : List ℕ) (r : Bool) → ws ≡ sets (replicate 41 0) 0 (map (wordAt t) (placesOf keys 0)) → u ≡ textOf ws → r ≡ sameList t u
     → cond r (given ws) refused ≡ readText t
 unfolding textOf readText isText wordsOf
 text-judged t ws u r e d f =

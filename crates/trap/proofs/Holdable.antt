@@ -9,6 +9,7 @@ use borrow.Author.Tests.{eq-eqb, eqb-true, leb-true}
 use lib.Bits.{bitAnd, bitOr, and-mask, or-shifted}
 use lib.Dec.{eqb, leb}
 use Rattle.bits.specs.Mask.{within}
+use Rattle.bits.proofs.Conjunction.{choose, by-test}
 use Rattle.bits.proofs.BitSolve.{lit, var, and, or, eq, imp, solve}
 use Rattle.registers.specs.declared.Level.{Level}
 use Rattle.registers.specs.declared.Registers.{Registers}
@@ -27,21 +28,12 @@ use Rattle.trap.specs.Interrupt.{takeable, firstOf, priority, takenBy, i
 use Rattle.trap.specs.Return.{returned, mayReturn, returnStep, mayWait, nextPc, waited}
 use Rattle.trap.specs.Time.{raiseStep, linesStep, advanced, elapsed}
 use Rattle.trap.proofs.First.{chosen}
-use Rattle.trap.proofs.Status.{entered-status-held, returned-status-held, previous-mode-held}
+use Rattle.trap.proofs.Status.{entered-status-holdable, returned-status-holdable, previous-mode-holdable}
 
 abbrev pub Holdable : Outcome → Type 0
 Holdable o = registersHoldable (o .registers) ≡ true
 
--- a choice by a test keeps what each side keeps where the test came out so
-by-test : (b : Bool) (x y : Outcome) → (b ≡ true → Holdable x) → (b ≡ false → Holdable y) → Holdable (cond b x y)
-by-test true x y p q = p refl
-by-test false x y p q = q refl
-
 -- ---- addresses and causes
-
-either-aligned : (b : Bool) (x y : ℕ) → aligned x ≡ true → aligned y ≡ true → aligned (cond b x y) ≡ true
-either-aligned true x y p q = p
-either-aligned false x y p q = q
 
 base-aligned : (tvec : ℕ) → aligned (base tvec) ≡ true
 base-aligned tvec = eq-eqb (base tvec % 4) 0 (omega arith)
@@ -49,7 +41,7 @@ base-aligned tvec = eq-eqb (base tvec % 4) 0 (omega arith)
 pub handler-aligned : (tvec : ℕ) (trap : Trap) → aligned (handler tvec trap) ≡ true
 handler-aligned tvec (Exception c) = base-aligned tvec
 handler-aligned tvec (Interrupt i) =
-    either-aligned (eqb (tvec % 4) 1) _ _ (eq-eqb ((base tvec + 4 * i) % 2 ^ 64 % 4) 0 (omega arith)) (base-aligned tvec)
+    choose aligned (eqb (tvec % 4) 1) _ _ (eq-eqb ((base tvec + 4 * i) % 2 ^ 64 % 4) 0 (omega arith)) (base-aligned tvec)
 
 pub next-aligned : (pc : ℕ) → aligned pc ≡ true → aligned ((pc + 4) % 2 ^ 64) ≡ true
 next-aligned pc p = eq-eqb ((pc + 4) % 2 ^ 64 % 4) 0 (omega (arith, eqb-true (pc % 4) 0 p))
@@ -85,7 +77,7 @@ entered-holdable level trap tval r p cause =
     let k = held r p in
     let l = level-held (levelOf level r) (level-of-held level r p) in
     level-kept _
-    (flow-kept r p _ _ _ (level-mode level) (handler-aligned (levelOf level r .tvec) trap) (entered-status-held level (r .mode) (r .mstatus) (k .mode) (k .mstatus)))
+    (flow-kept r p _ _ _ (level-mode level) (handler-aligned (levelOf level r .tvec) trap) (entered-status-holdable level (r .mode) (r .mstatus) (k .mode) (k .mstatus)))
     level _ (level-hold (trapRecorded (levelOf level r) (r .pc) trap tval) (record { tvec = l .tvec; counteren = l .counteren; epc = k .pc; cause = cause }))
 
 -- ---- the steps
@@ -107,7 +99,7 @@ module _ (r : Registers) (p : registersHoldable r ≡ true) where
   pub raise-step-holdable : (cause tval : ℕ) → Holdable (raiseStep r cause tval)
   unfolding raiseStep
   raise-step-holdable cause tval =
-      by-test (leb cause 7) _ _ (λ t. raised-holdable cause tval (omega (arith, leb-true cause 7 t))) (λ t. p)
+      by-test Holdable (leb cause 7) _ _ (λ t. raised-holdable cause tval (omega (arith, leb-true cause 7 t))) (λ t. p)
 
   taken-by-holdable : (choice : Choice) → firstOf (takeable r) priority ≡ choice → Holdable (takenBy r choice)
   taken-by-holdable (Take i) e =
@@ -123,8 +115,8 @@ module _ (r : Registers) (p : registersHoldable r ≡ true) where
   return-step-holdable level =
       let k = held r p in
       let l = level-held (levelOf level r) (level-of-held level r p) in
-      by-test (mayReturn level r) _ _
-      (λ t. flow-kept r p _ _ _ (previous-mode-held level (r .mstatus) (k .mstatus)) (l .epc) (returned-status-held level (r .mstatus) (k .mstatus)))
+      by-test Holdable (mayReturn level r) _ _
+      (λ t. flow-kept r p _ _ _ (previous-mode-holdable level (r .mstatus) (k .mstatus)) (l .epc) (returned-status-holdable level (r .mstatus) (k .mstatus)))
       (λ t. illegal-instruction-holdable)
 
   -- a step that only moves pc
@@ -134,17 +126,17 @@ module _ (r : Registers) (p : registersHoldable r ≡ true) where
   pub waited-holdable : Holdable (waited r)
   unfolding waited
   waited-holdable =
-      by-test (mayWait r) _ _ (λ t. pc-holdable (nextPc r) (next-aligned (r .pc) (held r p .pc))) (λ t. illegal-instruction-holdable)
+      by-test Holdable (mayWait r) _ _ (λ t. pc-holdable (nextPc r) (next-aligned (r .pc) (held r p .pc))) (λ t. illegal-instruction-holdable)
 
   pub lines-step-holdable : (lines : ℕ) → Holdable (linesStep r lines)
   unfolding linesStep
   lines-step-holdable lines =
       let k = held r p in
-      by-test (within 0xA88 lines) _ _ (λ t. interrupts-kept r p _ _ _ _ (k .mideleg) (k .mie) (k .mip) t) (λ t. p)
+      by-test Holdable (within 0xA88 lines) _ _ (λ t. interrupts-kept r p _ _ _ _ (k .mideleg) (k .mie) (k .mip) t) (λ t. p)
 
   pub advanced-holdable : (target : ℕ) → Holdable (advanced r target)
   unfolding advanced
-  advanced-holdable target = by-test (aligned target) _ _ (λ t. pc-holdable target t) (λ t. raised-holdable 0 target (omega arith))
+  advanced-holdable target = by-test Holdable (aligned target) _ _ (λ t. pc-holdable target t) (λ t. raised-holdable 0 target (omega arith))
 
   pub elapsed-holdable : (cycles retired : ℕ) → Holdable (elapsed r cycles retired)
   unfolding elapsed

@@ -62,33 +62,33 @@ at-pp Supervisor mode = rw (and-high (mode % 2 * 0x100) 1 8) (omega arith)
 at-pp Machine mode = rw (and-high (mode % 4 * 0x800) 2 11) (omega arith)
 
 -- the bits stay those that can be kept; MPP is as it was for S, and the old mode for M
-abbrev entered-kept : Level → G
-entered-kept level =
+abbrev enteredKept : Level → G
+enteredKept level =
     imp (keptE (var 0)) (var 0) (imp (and (var 2) (lit (ppMask level))) (var 2) (eq (keptE (enteredE level)) (enteredE level)))
 
-abbrev entered-mpp : Level → E → G
-entered-mpp level mpp = imp (and (var 2) (lit (ppMask level))) (var 2) (eq (and (enteredE level) (lit 0x1800)) mpp)
+abbrev enteredMppIs : Level → E → G
+enteredMppIs level mpp = imp (and (var 2) (lit (ppMask level))) (var 2) (eq (and (enteredE level) (lit 0x1800)) mpp)
 
-entered-kept-check : (level : Level) → check 3 (entered-kept level) ≡ true
-entered-kept-check Supervisor = refl
-entered-kept-check Machine = refl
+entered-check : (level : Level) → check 3 (enteredKept level) ≡ true
+entered-check Supervisor = refl
+entered-check Machine = refl
 
 entered-mpp-held : (level : Level) (mode x : ℕ) → isMode mode ≡ true → not (eqb (bitAnd x 0x1800) 0x1000) ≡ true
     → not (eqb (bitAnd (eval (x ∷ x * 16 ∷ mode % ppModes level * ppUnit level ∷ []) (enteredE level)) 0x1800) 0x1000) ≡ true
 entered-mpp-held Supervisor mode x m p =
-    rw (solve (entered-mpp Supervisor (and (var 0) (lit 0x1800))) (x ∷ x * 16 ∷ mode % 2 * 0x100 ∷ []) refl (at-pp Supervisor mode)) p
+    rw (solve (enteredMppIs Supervisor (and (var 0) (lit 0x1800))) (x ∷ x * 16 ∷ mode % 2 * 0x100 ∷ []) refl (at-pp Supervisor mode)) p
 entered-mpp-held Machine mode x m p =
-    rw (solve (entered-mpp Machine (var 2)) (x ∷ x * 16 ∷ mode % 4 * 0x800 ∷ []) refl (at-pp Machine mode))
+    rw (solve (enteredMppIs Machine (var 2)) (x ∷ x * 16 ∷ mode % 4 * 0x800 ∷ []) refl (at-pp Machine mode))
     (mode-cases (λ (m : ℕ). not (eqb (m % 4 * 0x800) 0x1000) ≡ true) refl refl refl mode m)
 
-pub entered-status-held : (level : Level) (mode mstatus : ℕ) → isMode mode ≡ true → statusHoldable mstatus ≡ true
+pub entered-status-holdable : (level : Level) (mode mstatus : ℕ) → isMode mode ≡ true → statusHoldable mstatus ≡ true
     → statusHoldable (enteredStatus level mode mstatus) ≡ true
 unfolding enteredStatus
-entered-status-held level mode x m p =
+entered-status-holdable level mode x m p =
     rw (moved-up level x)
     (join _ _
     (eq-eqb _ _
-    (solve (entered-kept level) (x ∷ x * 16 ∷ mode % ppModes level * ppUnit level ∷ []) (entered-kept-check level) (kept x p) (at-pp level mode)))
+    (solve (enteredKept level) (x ∷ x * 16 ∷ mode % ppModes level * ppUnit level ∷ []) (entered-check level) (kept x p) (at-pp level mode)))
     (entered-mpp-held level mode x m (status-held x p .mpp)))
 
 -- ---- return: var 0 is mstatus, var 1 mstatus four places down
@@ -107,17 +107,17 @@ moved-down Supervisor x = and-shr x 0x20 4
 moved-down Machine x = and-shr x 0x80 4
 
 -- the bits stay those that can be kept; MPP is as it was for S, and 0 for M
-abbrev returned-kept : Level → Bool → G
-returned-kept level machine = imp (keptE (var 0)) (var 0) (eq (keptE (returnedE level machine)) (returnedE level machine))
+abbrev returnedKept : Level → Bool → G
+returnedKept level machine = imp (keptE (var 0)) (var 0) (eq (keptE (returnedE level machine)) (returnedE level machine))
 
-abbrev returned-mpp : Level → Bool → E → G
-returned-mpp level machine mpp = eq (and (returnedE level machine) (lit 0x1800)) mpp
+abbrev returnedMppIs : Level → Bool → E → G
+returnedMppIs level machine mpp = eq (and (returnedE level machine) (lit 0x1800)) mpp
 
 abbrev returnedMpp : Level → E
 returnedMpp Supervisor = and (var 0) (lit 0x1800)
 returnedMpp Machine = lit 0
 
-returned-check : (level : Level) (machine : Bool) → (check 2 (returned-kept level machine) ≡ true) × (check 2 (returned-mpp level machine (returnedMpp level)) ≡ true)
+returned-check : (level : Level) (machine : Bool) → (check 2 (returnedKept level machine) ≡ true) × (check 2 (returnedMppIs level machine (returnedMpp level)) ≡ true)
 returned-check Supervisor true = (refl, refl)
 returned-check Supervisor false = (refl, refl)
 returned-check Machine true = (refl, refl)
@@ -132,21 +132,21 @@ returned-by : (level : Level) (machine : Bool) (x : ℕ) → statusHoldable x �
 returned-by level machine x p =
     let w = returned-check level machine in
     rw (moved-down level x)
-    (join _ _ (eq-eqb _ _ (solve (returned-kept level machine) (x ∷ x / 16 ∷ []) (w .0) (kept x p)))
-    (rw (solve (returned-mpp level machine (returnedMpp level)) (x ∷ x / 16 ∷ []) (w .1)) (mpp-held level x (x / 16) (status-held x p .mpp))))
+    (join _ _ (eq-eqb _ _ (solve (returnedKept level machine) (x ∷ x / 16 ∷ []) (w .0) (kept x p)))
+    (rw (solve (returnedMppIs level machine (returnedMpp level)) (x ∷ x / 16 ∷ []) (w .1)) (mpp-held level x (x / 16) (status-held x p .mpp))))
 
-pub returned-status-held : (level : Level) (mstatus : ℕ) → statusHoldable mstatus ≡ true → statusHoldable (returnedStatus level mstatus) ≡ true
+pub returned-status-holdable : (level : Level) (mstatus : ℕ) → statusHoldable mstatus ≡ true → statusHoldable (returnedStatus level mstatus) ≡ true
 unfolding returnedStatus
-returned-status-held level x p = returned-by level (eqb (previousMode level x) 3) x p
+returned-status-holdable level x p = returned-by level (eqb (previousMode level x) 3) x p
 
 -- ---- xPP names a mode
 
-pub previous-mode-held : (level : Level) (mstatus : ℕ) → statusHoldable mstatus ≡ true → isMode (previousMode level mstatus) ≡ true
-previous-mode-held Supervisor x p =
+pub previous-mode-holdable : (level : Level) (mstatus : ℕ) → statusHoldable mstatus ≡ true → isMode (previousMode level mstatus) ≡ true
+previous-mode-holdable Supervisor x p =
     let e : bitAnd x 0x100 / 0x100 ≡ x / 0x100 % 2 = rw (and-high x 1 8) (omega arith) in
     rw e
     (field-cases (λ (v : ℕ). v < 2 → isMode v ≡ true) (λ h. refl) (λ h. refl) (λ h. absurd (omega arith)) (λ h. refl) (x / 0x100 % 2) (omega arith) (omega arith))
-previous-mode-held Machine x p =
+previous-mode-holdable Machine x p =
     let e : bitAnd x 0x1800 / 0x800 ≡ x / 0x800 % 4 = rw (and-high x 2 11) (omega arith) in
     rw e
     (field-cases (λ (v : ℕ). not (eqb (v * 0x800) 0x1000) ≡ true → isMode v ≡ true) (λ q. refl) (λ q. refl) (λ q. q) (λ q. refl)

@@ -63,7 +63,7 @@ raised r cause tval =
       answer = Trapped (Exception cause) (destination r (Exception cause));
     }
 
--- 01, "Registers": illegal instruction is cause 2 with trap value 0
+-- 01, "Registers and access to them": illegal instruction is cause 2 with trap value 0
 abbrev pub illegalInstruction : Registers → Outcome
 illegalInstruction r = raised r 2 0
 

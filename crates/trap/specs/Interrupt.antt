@@ -1,4 +1,4 @@
--- 01, "Traps": step 7, take interrupt; and WFI.
+-- 01, "Traps, returns, time": step 7, take interrupt.
 use Prim.Native.Nat.{ℕ}
 use mathlib.Core.Bool.{Bool, true, false, cond, not, _&&_, _||_}
 use mathlib.Core.List.{List, [], _∷_}
@@ -13,7 +13,7 @@ use Rattle.trap.specs.declared.Choice.the-variants.{Take, Nothing}
 use Rattle.trap.specs.declared.Outcome.{Outcome}
 use Rattle.trap.specs.Enter.{destination, entered}
 
--- 01, "Registers": mip reads software bits or lines
+-- 01, "Registers and access to them": mip reads software bits or lines
 abbrev pub pending : Registers → ℕ
 pending r = bitOr (r .interrupts .mip) (r .interrupts .lines)
 

@@ -1,4 +1,4 @@
--- 01, "Steps" and "Traps": the paper's number and values of each case of an answer.
+-- 01, "Steps" and "Traps, returns, time": the numbers of each case of an answer, and its values.
 use Prim.Native.Nat.{ℕ, _+_, _^_}
 use mathlib.Core.Bool.{cond}
 use mathlib.Core.List.{List, [], _∷_}
@@ -18,7 +18,7 @@ abbrev pub interruptNumber : Trap → ℕ
 interruptNumber (Exception c) = 0
 interruptNumber (Interrupt i) = i
 
--- 0 done; 1 done with a value; 2 done with yes (1) or no (0); 3 granted; 4 trapped, with cause and destination mode; 5 refused, with its number
+-- the cases are numbered in 01's order (house): 0 done; 1 done with a value; 2 done with yes (1) or no (0); 3 granted; 4 trapped, with cause and destination mode; 5 refused, with its number
 abbrev pub answerNumbers : Answer → List ℕ
 answerNumbers Done = 0 ∷ 0 ∷ 0 ∷ []
 answerNumbers (DoneValue v) = 1 ∷ v ∷ 0 ∷ []

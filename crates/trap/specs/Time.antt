@@ -10,7 +10,7 @@ use Rattle.trap.specs.declared.Answer.the-variants.{Done, Refused}
 use Rattle.trap.specs.declared.Outcome.{Outcome}
 use Rattle.trap.specs.Enter.{raised}
 
--- refusal 2 changes nothing
+-- a refusal returns its number and changes nothing
 abbrev pub refusedStep : Registers → ℕ → Outcome
 refusedStep r number = record { registers = r; answer = Refused number }
 

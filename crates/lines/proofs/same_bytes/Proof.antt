@@ -1,5 +1,5 @@
-use Rattle.lines.proofs.Bytes.{same-lengths, same-more, same-all}
-use Rattle.lines.specs.Lines.{sameBytes}
+use Rattle.bits.proofs.SameLaws.{same-lengths, same-more, same-all}
+use Rattle.bits.specs.Same.{sameList}
 use lib.ListN.{length, drop}
 use Prim.Native.Nat.{_-_, _≤_}
 use mathlib.Core.Bool.{_&&_}
@@ -10,7 +10,7 @@ use Rattle.lines.proofs.same_bytes.Statement.{statement}
 use Rattle.lines.proofs.same_bytes.Tie as tie
 
 abbrev Inv-loop : tie.InvT-loop
-Inv-loop a b same₀ i₀ same i = (i ≤ length a) × (sameBytes a b ≡ (same && sameBytes (drop i a) (drop i b)))
+Inv-loop a b same₀ i₀ same i = (i ≤ length a) × (sameList a b ≡ (same && sameList (drop i a) (drop i b)))
 
 abbrev μ-loop : tie.MeasureT-loop
 μ-loop a b same₀ i₀ same i = length a - i
