@@ -90,12 +90,12 @@ pub(crate) fn name_steps(steps: &[u64]) -> bool
     ensures { λ r. ⌜ r ≡ nameSteps (now (steps .entry)) ⌝ }
 {
     let mut named = true;
-    let mut i: usize = 0;
-    while 3 <= steps.len() - i {
-        named = named & (steps[i] <= 17);
-        i += 3;
+    let mut at: usize = 0;
+    while 3 <= steps.len() - at {
+        named = named & (steps[at] <= 17);
+        at += 3;
     }
-    named & (steps.len() == i)
+    named & (steps.len() == at)
 }
 
 // All steps in order, each given what the one before left.

@@ -1,4 +1,4 @@
--- `capi::run::name_steps` meets its contract: the words from i on decide what is left to decide. Assumes nothing.
+-- `capi::run::name_steps` meets its contract: the words from a place on decide what is left to decide. Assumes nothing.
 use Prim.Native.Nat.{_-_, _≤_}
 use mathlib.Core.Path.{_≡_, refl, sym, _∙_}
 use mathlib.Core.Bool.{_&&_}
@@ -11,10 +11,10 @@ use Rattle.capi.proofs.run.name_steps.Statement.{statement}
 use Rattle.capi.proofs.run.name_steps.Tie as tie
 
 abbrev Inv-loop : tie.InvT-loop
-Inv-loop steps named₀ i₀ named i = (i ≤ length steps) × ((named && nameSteps (drop i steps)) ≡ nameSteps steps)
+Inv-loop steps named₀ at₀ named at = (at ≤ length steps) × ((named && nameSteps (drop at steps)) ≡ nameSteps steps)
 
 abbrev μ-loop : tie.MeasureT-loop
-μ-loop steps named₀ i₀ named i = length steps - i
+μ-loop steps named₀ at₀ named at = length steps - at
 
 loop-holds : tie.Need-loop-holds Inv-loop μ-loop
 loop-holds c = (search needs, refl)
@@ -23,12 +23,12 @@ loop-again : tie.Need-loop-again Inv-loop μ-loop
 loop-again c =
     let i = c .before in
     let l = i .before .loop in
-    (omega arith, sym (named-next (i .before .before .args .steps .now) (l .i) (l .named) (i .loop-test .taken)) ∙ l .inv .1)
+    (omega arith, sym (named-next (i .before .before .args .steps .now) (l .at) (l .named) (i .loop-test .taken)) ∙ l .inv .1)
 
 returns : tie.Need-returns Inv-loop μ-loop
 returns c =
     let l = c .before .loop in
-    sym (named-end (c .before .before .args .steps .now) (l .i) (l .named) (l .inv .0) (omega arith)) ∙ l .inv .1
+    sym (named-end (c .before .before .args .steps .now) (l .at) (l .named) (l .inv .0) (omega arith)) ∙ l .inv .1
 
 pub name-steps-spec : {M : Type 1} → statement M
 name-steps-spec =
