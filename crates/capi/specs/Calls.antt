@@ -21,7 +21,7 @@ use Rattle.hart.specs.declared.Decoded.the-variants.{Formed, Nothing}
 use Rattle.hart.specs.Steps.{stepped}
 use Rattle.hart.specs.Queries.{queryAnswer}
 use Rattle.hart.specs.Saved.{hartOf, savedAnswer, savedBuffer, restored}
-use Rattle.hart.specs.Asked.{refusalOf}
+use Rattle.hart.specs.Refusals.{refusalOf}
 use Rattle.hart.specs.Decode.{decoded, stepsOf}
 use Rattle.hart.specs.Runs.{leftBy}
 use Rattle.capi.specs.MapWords.{mapOfWords, mapWords}

@@ -211,7 +211,7 @@ impl Hart {
     }
 
     // A step of a state that a hart can hold: the map is compiled anew where a protection register differs, and at a reset.
-    pub fn transition(self, map: Map, step: Step) -> Stepped
+    fn transition(self, map: Map, step: Step) -> Stepped
         ensures { λ r. ⌜ r ≡ transition self map step ⌝ }
     {
         let next = self.effect(step);
