@@ -1,14 +1,14 @@
 -- What a CSR step leaves: a state that a hart can hold, for every number and operand; and the registers that it does not touch, as they were.
 use Prim.Native.Nat.{ℕ}
 use mathlib.Core.Path.{_≡_, refl}
-use mathlib.Core.Bool.{Bool, true, false, cond}
+use mathlib.Core.Bool.{true, false}
 use Rattle.bits.proofs.Conjunction.{choose}
 use Rattle.registers.specs.Hold.{registersHoldable, pmpHoldable}
 use Rattle.csr.specs.declared.Operation.{Operation}
 use Rattle.csr.specs.declared.Operation.the-variants.{Write, Set, Clear, Read}
 use Rattle.csr.specs.declared.State.{State}
 use Rattle.csr.specs.Show.{isPmp}
-use Rattle.csr.specs.Store.{pmpWritten, registersWritten, stored, start, operated, operation}
+use Rattle.csr.specs.Store.{stored, start, operated, operation}
 use Rattle.csr.proofs.RegistersKept.{registers-written-kept}
 use Rattle.csr.proofs.PmpKept.{pmp-written-kept}
 

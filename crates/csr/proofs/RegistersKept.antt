@@ -15,9 +15,8 @@ use Rattle.registers.specs.declared.Level.the-variants.{Supervisor, Machine}
 use Rattle.registers.specs.declared.LevelRegisters.{LevelRegisters}
 use Rattle.registers.specs.declared.Registers.{Registers}
 use Rattle.registers.specs.Hold.{aligned, levelHoldable, registersHoldable}
-use Rattle.registers.specs.Update.{withStatus, withMedeleg, withInterrupts, withCounters, withLevel}
-use Rattle.registers.proofs.Held.{Held, held, LevelHeld, level-held, level-hold, flow-kept, medeleg-kept, interrupts-kept, counters-kept, level-kept}
-use Rattle.csr.specs.Store.{statusWritten, tvecWritten, levelWritten, machineWritten, supervisorWritten, counterWritten, registersWritten}
+use Rattle.registers.proofs.Held.{held, level-held, level-hold, flow-kept, medeleg-kept, interrupts-kept, counters-kept, level-kept}
+use Rattle.csr.specs.Store.{statusWritten, tvecWritten, levelWritten, machineWritten, supervisorWritten, registersWritten}
 use Rattle.csr.proofs.StatusKept.{status-kept, sstatus-kept}
 
 -- ---- the registers of a level

@@ -1,15 +1,15 @@
 -- A write leaves an mstatus that a hart can hold.
-use Prim.Native.Nat.{ℕ, _-_, _^_}
+use Prim.Native.Nat.{ℕ}
 use mathlib.Core.Path.{_≡_, refl}
-use mathlib.Core.Bool.{Bool, true, false, not, _&&_, cond}
+use mathlib.Core.Bool.{Bool, true, false, cond}
 use mathlib.Core.List.{[], _∷_}
 use borrow.Author.Tests.{eq-eqb, eqb-true}
-use lib.Bits.{bitAnd, bitOr}
+use lib.Bits.{bitAnd}
 use lib.Dec.{eqb}
 use Rattle.bits.specs.Mask.{replaced}
 use Rattle.bits.proofs.BitSolve.{E, lit, var, and, or, eq, imp, solve}
 use Rattle.registers.specs.Hold.{keptStatus, statusHoldable}
-use Rattle.registers.proofs.Held.{StatusHeld, status-held, status-hold}
+use Rattle.registers.proofs.Held.{status-held, status-hold}
 use Rattle.csr.specs.Store.{statusWritten}
 
 abbrev keptE : E → E

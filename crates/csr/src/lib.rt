@@ -7,6 +7,7 @@ mod show;
 mod store;
 
 pub use permit::is_illegal;
+pub use show::is_pmp;
 pub use show::read;
 pub use store::operate;
 

@@ -62,18 +62,11 @@ fn counter_shown(r: Registers, n: u64) -> u64
     }
 }
 
+// Whether a number is that of a protection register.
 pub fn is_pmp(n: u64) -> bool
     ensures { λ r. ⌜ r ≡ isPmp n ⌝ }
 {
     (n == 0x3A0) | ((n == 0x3A2) | ((0x3B0 <= n) & (n <= 0x3BF)))
-}
-
-// The entry whose pmpaddr has this number.
-pub fn entry_of(n: u64) -> usize
-    requires { ⌜ (0x3B0 ≤ n) × (n ≤ 0x3BF) ⌝ }
-    ensures { λ r. ⌜ (r ≡ n - 0x3B0) × (r < 16) ⌝ }
-{
-    (n - 0x3B0) as usize
 }
 
 fn pmp_shown(p: Pmp, n: u64) -> u64
@@ -85,7 +78,10 @@ fn pmp_shown(p: Pmp, n: u64) -> u64
     match n {
         0x3A0 => low(cfgs),
         0x3A2 => high(cfgs),
-        _ => addrs[entry_of(n)],
+        _ => {
+            let entry = (n % 16) as usize; // pmpaddr0 is 3B0
+            addrs[entry]
+        }
     }
 }
 

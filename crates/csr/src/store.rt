@@ -1,7 +1,6 @@
 // What a write stores.
 use crate::Operation;
 use crate::State;
-use crate::show::entry_of;
 use crate::show::is_pmp;
 use crate::show::read;
 use registers::LevelRegisters;
@@ -209,6 +208,7 @@ fn next_config(cfgs: [u8; 16], i: usize) -> u8
     if i < 15 { cfgs[i + 1] } else { 0 }
 }
 
+// Whether entry i is locked, or the next one is locked with A=TOR.
 fn is_address_frozen(cfgs: [u8; 16], i: usize) -> bool
     requires { ⌜ i < 16 ⌝ }
     ensures { λ r. ⌜ r ≡ addressFrozen cfgs i ⌝ }
@@ -245,14 +245,15 @@ fn pmp_written(p: Pmp, n: u64, value: u64) -> Pmp
             w
         }
         _ => {
-            let i = entry_of(n);
-            let old = w.addrs[i];
-            w.addrs[i] = address_written(cfgs, i, old, value);
+            let entry = (n % 16) as usize; // pmpaddr0 is 3B0
+            let old = w.addrs[entry];
+            w.addrs[entry] = address_written(cfgs, entry, old, value);
             w
         }
     }
 }
 
+// A write of any value: to the protection registers, or to the others.
 fn stored_value(s: State, n: u64, value: u64) -> State
     ensures { λ r. ⌜ r ≡ stored s n value ⌝ }
 {

@@ -6,19 +6,19 @@ use mathlib.Core.Bool.{Bool, true, false, cond, false≢true}
 use mathlib.Core.List.{List}
 use mathlib.Core.Logic.{_⊎_, ⊎-elim}
 use native.Mathlib.Omega.{arith}
+use borrow.Author.Tests.{eq-eqb, ne-eqb}
 use lib.ListN.{take}
 use Rattle.pmp.specs.declared.Mode.{Mode}
 use Rattle.pmp.specs.declared.Access.{Access}
-use Rattle.pmp.specs.Rule.{isSize, byteRule}
+use Rattle.pmp.specs.declared.Decision.the-variants.{Refused}
+use Rattle.pmp.specs.Rule.{isSize, byteRule, checked}
 use Rattle.registers.specs.Hold.{resetPmp}
 use Rattle.map.specs.declared.Map.{Map}
 use Rattle.map.specs.Lookup.{findRange, rangesIn}
 use Rattle.map.specs.Ranges.{rangesOf, compiled}
-use Rattle.map.proofs.MapLaws.{count-bound, read-back}
-use Rattle.map.proofs.QueryLaws.{query-rule, one-range}
+use Rattle.map.proofs.MapLaws.{compiled-count, compiled-ranges}
+use Rattle.map.proofs.QueryLaws.{query-rule, size-refused, one-range}
 use Rattle.text.specs.Text.{readText}
-use Rattle.trap.specs.declared.Answer.{Answer}
-use Rattle.trap.specs.declared.Answer.the-variants.{Done, DoneValue, DoneFlag, Granted, Trapped, Refused}
 use Rattle.hart.specs.declared.Hart.{Hart}
 use Rattle.hart.specs.declared.Mapped.{Mapped}
 use Rattle.hart.specs.declared.Stepped.{Stepped}
@@ -28,66 +28,58 @@ use Rattle.hart.specs.Steps.{mapFor, resetMapped, handedBack}
 use Rattle.hart.specs.Saved.{hartOf, restored, restoredWords, restoredDone}
 use Rattle.hart.specs.Queries.{queryAnswer}
 use Rattle.hart.specs.Runs.{afterAll, leftBy}
+use Rattle.hart.specs.Asked.{ruleAfter, refusalOf, readBack, ruleFromText}
 use Rattle.hart.specs.Faithful.{FromText, Start, cfgsAfter, addrsAfter, answerAfter, FaithfulAfter, OneRange, Faithful}
 use Rattle.hart.proofs.Kept.{mapped, kept-all}
 use Rattle.hart.proofs.Answered.{rule-answers, unrefused}
 use Rattle.hart.proofs.Holds.{reset-holds, after-holds}
-
-module _ (cfgs addrs : List ℕ) where
-  compiled-count : compiled cfgs addrs .count ≤ 33
-  unfolding compiled
-  compiled-count = count-bound cfgs addrs
-
-  compiled-ranges : take (compiled cfgs addrs .count) (compiled cfgs addrs .ranges) ≡ rangesOf cfgs addrs
-  compiled-ranges =
-      let e : min (compiled cfgs addrs .count) 33 ≡ compiled cfgs addrs .count = omega (arith, compiled-count) in
-      rw e at (read-back cfgs addrs)
 
 -- a start is a state that a hart can hold, with its map
 pub record Sound (start : Mapped) : Type 0 where
   pub held : canHold (start .hart) ≡ true
   pub own : start .map ≡ mapFor (start .hart .pmp)
 
-abbrev isDone : Answer → Bool
-isDone Done = true
-isDone (DoneValue v) = false
-isDone (DoneFlag b) = false
-isDone Granted = false
-isDone (Trapped trap level) = false
-isDone (Refused number) = false
-
 -- what reading a text back gives, where it is not refused
-module _ (start : Mapped) (h : Hart) (map : Map) where
-  words-sound : (words : List ℕ) → restoredWords h map words ≡ record { hart = start .hart; map = start .map; answer = Done } → Sound start
+module _ (h : Hart) (map : Map) where
+  words-sound : (words : List ℕ) → refusalOf (restoredWords h map words .answer) ≡ 0
+      → Sound (record { hart = restoredWords h map words .hart; map = restoredWords h map words .map })
   unfolding restoredWords
   words-sound words = go (canHold (hartOf words)) refl
     where
-      go : (b : Bool) → canHold (hartOf words) ≡ b
-          → cond b (restoredDone (hartOf words)) (handedBack map (refused h 5)) ≡ record { hart = start .hart; map = start .map; answer = Done }
-          → Sound start
-      go true q e =
-          record {
-            held = ap (λ (s : Stepped). canHold (s .hart)) (sym e) ∙ q;
-            own =
-                ap (λ (s : Stepped). s .map) (sym e) ∙ ap (λ (s : Stepped). mapFor (s .hart .pmp)) e;
-          }
-      go false q e = absurd (false≢true (ap (λ (s : Stepped). isDone (s .answer)) e))
+      result : Bool → Stepped
+      result b = cond b (restoredDone (hartOf words)) (handedBack map (refused h 5))
 
-  text-sound : (text : List ℕ) → restored h map text ≡ record { hart = start .hart; map = start .map; answer = Done } → Sound start
+      go : (b : Bool) → canHold (hartOf words) ≡ b → refusalOf (result b .answer) ≡ 0
+          → Sound (record { hart = result b .hart; map = result b .map })
+      go true q e = record { held = q; own = refl }
+      go false q e = absurd (omega (arith, e))
+
+  pub text-sound : (text : List ℕ) → refusalOf (restored h map text .answer) ≡ 0
+      → Sound (record { hart = restored h map text .hart; map = restored h map text .map })
   unfolding restored
   text-sound text = go (readText text .ok)
     where
-      go : (b : Bool)
-          → cond b (restoredWords h map (readText text .words)) (handedBack map (refused h 4)) ≡ record { hart = start .hart; map = start .map; answer = Done }
-          → Sound start
+      result : Bool → Stepped
+      result b = cond b (restoredWords h map (readText text .words)) (handedBack map (refused h 4))
+
+      go : (b : Bool) → refusalOf (result b .answer) ≡ 0 → Sound (record { hart = result b .hart; map = result b .map })
       go true e = words-sound (readText text .words) e
-      go false e = absurd (false≢true (ap (λ (s : Stepped). isDone (s .answer)) e))
+      go false e = absurd (omega (arith, e))
+
+from-text : (start : Mapped) → FromText start → Sound start
+from-text start t =
+    let e = t .read in
+    subst Sound (λ j. record { hart = e j .hart; map = e j .map })
+    (text-sound (t .hart) (t .map) (t .text) (ap (λ (s : Stepped). refusalOf (s .answer)) e))
+
+pub reset-sound : Sound resetMapped
+reset-sound = record { held = reset-holds; own = refl }
 
 start-sound : (start : Mapped) → Start start → Sound start
 start-sound start s =
     ⊎-elim
-    (λ e. record { held = rw e reset-holds; own = rw e refl })
-    (λ t. text-sound start (t .hart) (t .map) (t .text) (t .read))
+    (λ e. rw e reset-sound)
+    (from-text start)
     s
 
 -- a query on a hart that can be held, with its own map
@@ -96,10 +88,13 @@ own-query : (h : Hart) (mode : Mode) (access : Access) (address size : ℕ) → 
 unfolding queryAnswer
 own-query h mode access address size p q = rw p (query-rule (h .pmp .cfgs) mode access address size (h .pmp .addrs) q)
 
-module _ (start : Mapped) (sound : Sound start) (steps : List Step) where
-  final : Hart
-  final = afterAll (start .hart) steps
+-- a size other than 1, 2, 4, 8 is refused
+size-query : (h : Hart) (mode : Mode) (access : Access) (address size : ℕ) → canHold h ≡ true → isSize size ≡ false
+    → queryAnswer h (mapFor (h .pmp)) mode access address size ≡ Refused 1
+unfolding queryAnswer
+size-query h mode access address size p q = rw p (size-refused (h .pmp .cfgs) mode access address size (mapFor (h .pmp)) q)
 
+module _ (start : Mapped) (sound : Sound start) (steps : List Step) where
   left : leftBy (start .hart) (start .map) steps ≡ mapped (afterAll (start .hart) steps)
   left = kept-all steps (start .hart) (start .map) (sound .own)
 
@@ -108,6 +103,21 @@ module _ (start : Mapped) (sound : Sound start) (steps : List Step) where
   answers-rule mode access address size q =
       ap (λ (l : Mapped). queryAnswer (l .hart) (l .map) mode access address size) left
       ∙ own-query (afterAll (start .hart) steps) mode access address size (after-holds steps (start .hart) (sound .held)) q
+
+  -- for every size: any other is refused by both
+  pub asked-after : (mode : Mode) (access : Access) (address size : ℕ)
+      → answerAfter start steps mode access address size ≡ ruleAfter (start .hart) steps mode access address size
+  unfolding checked
+  asked-after mode access address size = go (isSize size) refl
+    where
+      go : (b : Bool) → isSize size ≡ b
+          → answerAfter start steps mode access address size
+          ≡ cond (isSize size) (byteRule (cfgsAfter start steps) (addrsAfter start steps) mode access address size) (Refused 1)
+      go true q = rw q (answers-rule mode access address size q)
+      go false q =
+          rw q
+          (ap (λ (l : Mapped). queryAnswer (l .hart) (l .map) mode access address size) left
+          ∙ size-query (afterAll (start .hart) steps) mode access address size (after-holds steps (start .hart) (sound .held)) q)
 
   pub faithful-after : FaithfulAfter start steps
   faithful-after =
@@ -135,3 +145,33 @@ faithful =
       after = λ start s steps. faithful-after start (start-sound start s) steps;
       one-range = query-one-range;
     }
+
+-- ---- a query after a run from a text, from what reading it back gave
+
+module _ (text : List ℕ) (steps : List Step) (mode : Mode) (access : Access) (address size : ℕ) where
+  text-answered : refusalOf (readBack text .answer) ≡ 0
+      → answerAfter (record { hart = readBack text .hart; map = readBack text .map }) steps mode access address size
+      ≡ ruleFromText text steps mode access address size
+  unfolding ruleFromText
+  text-answered z =
+      rw (eq-eqb (refusalOf (readBack text .answer)) 0 z)
+      (asked-after (record { hart = readBack text .hart; map = readBack text .map }) (text-sound (resetMapped .hart) (resetMapped .map) text z) steps
+      mode access address size)
+
+  text-unread : (refusalOf (readBack text .answer) ≡ 0 → ⊥)
+      → Refused (refusalOf (readBack text .answer)) ≡ ruleFromText text steps mode access address size
+  unfolding ruleFromText
+  text-unread z = rw (ne-eqb (refusalOf (readBack text .answer)) 0 z)
+
+  module _ (read : Stepped) (known : read ≡ readBack text) (refusal : ℕ) (told : refusal ≡ refusalOf (read .answer)) where
+    pub text-asked : refusal ≡ 0
+        → answerAfter (record { hart = read .hart; map = read .map }) steps mode access address size
+        ≡ ruleFromText text steps mode access address size
+    text-asked z =
+        ap (λ (s : Stepped). answerAfter (record { hart = s .hart; map = s .map }) steps mode access address size) known
+        ∙ text-answered (ap (λ (s : Stepped). refusalOf (s .answer)) (sym known) ∙ sym told ∙ z)
+
+    pub text-refused : (refusal ≡ 0 → ⊥) → Refused refusal ≡ ruleFromText text steps mode access address size
+    text-refused z =
+        let e : refusal ≡ refusalOf (readBack text .answer) = told ∙ ap (λ (s : Stepped). refusalOf (s .answer)) known in
+        ap Refused e ∙ text-unread (λ p. z (e ∙ p))

@@ -10,11 +10,12 @@ use Rattle.map.specs.declared.Map.{Map}
 use Rattle.hart.specs.declared.Hart.{Hart}
 use Rattle.hart.specs.declared.Mapped.{Mapped}
 use Rattle.hart.specs.declared.Step.{Step}
-use Rattle.hart.specs.declared.Step.the-variants.{Reset, Csr, Raise, Lines, TakeInterrupt, Mret, Sret, Wfi, Ecall, Ebreak, Advance, Access as AccessStep, Elapsed}
+use Rattle.hart.specs.declared.Step.the-variants.{Reset}
 use Rattle.hart.specs.declared.Effect.{Effect}
 use Rattle.hart.specs.Effects.{resetHart, isReset, judged}
 use Rattle.hart.specs.Steps.{mapFor, remapped, withMap, resetMapped, stepped}
 use Rattle.hart.specs.Runs.{afterAll, leftBy}
+use Rattle.hart.proofs.StepLaws.{only-reset}
 
 -- the map that is handed back belongs to the registers after the step, if the one that was given belongs to those before it
 remapped-for : (before after : Pmp) (map : Map) → map ≡ mapFor before → remapped before map after ≡ mapFor after
@@ -36,22 +37,18 @@ after-effect : (h : Hart) (map : Map) (e : Effect) → map ≡ mapFor (h .pmp)
     → _≡_ {A = Mapped} (record { hart = withMap h map e .hart; map = withMap h map e .map }) (mapped (e .hart))
 after-effect h map e p = λ j. record { hart = e .hart; map = remapped-for (h .pmp) (e .hart .pmp) map p j }
 
+reset-kept : (h : Hart) (map : Map) → leftOf h map Reset ≡ mapped (judged h Reset .hart)
+unfolding stepped judged
+reset-kept h map = refl
+
 -- a step's map follows the registers, and no map is read on the way to these
 pub kept : (h : Hart) (map : Map) (s : Step) → map ≡ mapFor (h .pmp) → leftOf h map s ≡ mapped (judged h s .hart)
-unfolding stepped judged
-kept h map Reset e = refl
-kept h map (Csr op number operand) e = after-effect h map (judged h (Csr op number operand)) e
-kept h map (Raise cause tval) e = after-effect h map (judged h (Raise cause tval)) e
-kept h map (Lines lines) e = after-effect h map (judged h (Lines lines)) e
-kept h map TakeInterrupt e = after-effect h map (judged h TakeInterrupt) e
-kept h map Mret e = after-effect h map (judged h Mret) e
-kept h map Sret e = after-effect h map (judged h Sret) e
-kept h map Wfi e = after-effect h map (judged h Wfi) e
-kept h map Ecall e = after-effect h map (judged h Ecall) e
-kept h map Ebreak e = after-effect h map (judged h Ebreak) e
-kept h map (Advance target) e = after-effect h map (judged h (Advance target)) e
-kept h map (AccessStep access address size) e = after-effect h map (judged h (AccessStep access address size)) e
-kept h map (Elapsed cycles retired) e = after-effect h map (judged h (Elapsed cycles retired)) e
+unfolding stepped
+kept h map s e = go (isReset s) refl
+  where
+    go : (b : Bool) → isReset s ≡ b → leftOf h map s ≡ mapped (judged h s .hart)
+    go true p = rw (only-reset s p) (reset-kept h map)
+    go false p = rw p (after-effect h map (judged h s) e)
 
 -- the same over any list of steps
 pub kept-all : (steps : List Step) (h : Hart) (map : Map) → map ≡ mapFor (h .pmp) → leftBy h map steps ≡ mapped (afterAll h steps)

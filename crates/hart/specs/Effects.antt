@@ -14,7 +14,7 @@ use Rattle.registers.specs.Effective.{effectiveMode}
 use Rattle.csr.specs.declared.Operation.{Operation}
 use Rattle.csr.specs.declared.State.{State}
 use Rattle.csr.specs.Permit.{illegal}
-use Rattle.csr.specs.Show.{shown}
+use Rattle.csr.specs.Show.{shown, isPmp}
 use Rattle.csr.specs.Store.{operation}
 use Rattle.trap.specs.declared.Answer.{Answer}
 use Rattle.trap.specs.declared.Answer.the-variants.{Done, DoneValue, Granted, Refused}
@@ -115,3 +115,19 @@ isReset (Elapsed cycles retired) = false
 -- refusal 3: the state given is not one a hart can hold, at any call but step 0; it comes before 1 and 2
 unfoldable pub judged : Hart → Step → Effect
 judged h s = cond (isReset s || canHold h) (effect h s) (refused h 3)
+
+-- a step that may change a protection register: reset, and a CSR step on one of theirs
+abbrev pub mayRemap : Step → Bool
+mayRemap Reset = true
+mayRemap (Csr op number operand) = isPmp number
+mayRemap (Raise cause tval) = false
+mayRemap (Lines lines) = false
+mayRemap TakeInterrupt = false
+mayRemap Mret = false
+mayRemap Sret = false
+mayRemap Wfi = false
+mayRemap Ecall = false
+mayRemap Ebreak = false
+mayRemap (Advance target) = false
+mayRemap (AccessStep access address size) = false
+mayRemap (Elapsed cycles retired) = false

@@ -4,6 +4,8 @@ use Rattle.map.specs.declared.Map.{Map}
 use Rattle.hart.specs.declared.Hart.{Hart}
 use Rattle.hart.specs.declared.Mapped.{Mapped}
 use Rattle.hart.specs.declared.Step.{Step}
+use Rattle.hart.specs.declared.Decoded.{Decoded}
+use Rattle.hart.specs.declared.Decoded.the-variants.{Formed, Nothing}
 use Rattle.hart.specs.Effects.{judged}
 use Rattle.hart.specs.Steps.{stepped}
 
@@ -16,3 +18,8 @@ afterAll h (s ∷ steps) = afterAll (judged h s .hart) steps
 unfoldable pub leftBy : Hart → Map → List Step → Mapped
 leftBy h map [] = record { hart = h; map = map }
 leftBy h map (s ∷ steps) = leftBy (stepped h map s .hart) (stepped h map s .map) steps
+
+-- the state and the map after three numbers, which form a step or none
+abbrev pub steppedBy : Hart → Map → Decoded → Mapped
+steppedBy h map (Formed s) = record { hart = stepped h map s .hart; map = stepped h map s .map }
+steppedBy h map Nothing = record { hart = h; map = map }

@@ -6,9 +6,18 @@ use registers::Pmp;
 use registers::Registers;
 use trap::Answer;
 
+mod asked;
 pub mod decode;
 mod query;
+mod run;
+mod saved;
 mod steps;
+
+pub use asked::query_from_reset;
+pub use asked::query_from_text;
+pub use asked::refusal_of;
+pub use steps::is_reset;
+pub use steps::may_remap;
 
 // Every register of a hart as a raw number: it can hold what no hart can, and is then refused.
 pub struct Hart {

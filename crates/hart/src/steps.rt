@@ -1,4 +1,5 @@
 // The eighteen steps.
+use crate::Effect;
 use crate::Hart;
 use crate::Mapped;
 use crate::Step;
@@ -12,16 +13,47 @@ use registers::Level;
 use trap::Answer;
 use trap::Outcome;
 ghost use mathlib.Core.Path.{_≡_};
-ghost use Rattle.hart.specs.Effects.{canHold, isReset, refused, onRegisters, csrStep, accessAt, accessStep};
-ghost use Rattle.hart.specs.Steps.{mapFor, withMap, transition, stepped, resetMapped, handedBack};
+ghost use Rattle.hart.specs.Effects.{
+  canHold,
+  isReset,
+  mayRemap,
+  refused,
+  onRegisters,
+  csrStep,
+  accessAt,
+  accessStep,
+  effect,
+};
+ghost use Rattle.hart.specs.Steps.{resetMapped, transition, stepped};
 
-// Whether refusal 3 does not apply to the step.
-fn is_reset(step: Step) -> bool
+// Whether the step is step 0, which is never refused.
+pub fn is_reset(step: Step) -> bool
     ensures { λ r. ⌜ r ≡ isReset step ⌝ }
 {
     match step {
         Step::Reset => true,
         Step::Csr(_, _, _) => false,
+        Step::Raise(_, _) => false,
+        Step::Lines(_) => false,
+        Step::TakeInterrupt => false,
+        Step::Mret => false,
+        Step::Sret => false,
+        Step::Wfi => false,
+        Step::Ecall => false,
+        Step::Ebreak => false,
+        Step::Advance(_) => false,
+        Step::Access(_, _, _) => false,
+        Step::Elapsed(_, _) => false,
+    }
+}
+
+// Whether the step may change a protection register. Where it may not, the map stays and need not be looked at.
+pub fn may_remap(step: Step) -> bool
+    ensures { λ r. ⌜ r ≡ mayRemap step ⌝ }
+{
+    match step {
+        Step::Reset => true,
+        Step::Csr(_, number, _) => csr::is_pmp(number),
         Step::Raise(_, _) => false,
         Step::Lines(_) => false,
         Step::TakeInterrupt => false,
@@ -59,37 +91,35 @@ impl Hart {
         Mapped { hart, map }
     }
 
-    fn refuse(self, map: Map, number: u64) -> Stepped
-        ensures { λ r. ⌜ r ≡ handedBack map (refused self number) ⌝ }
+    fn refuse(self, number: u64) -> Effect
+        ensures { λ r. ⌜ r ≡ refused self number ⌝ }
     {
-        Stepped {
+        Effect {
             hart: self,
-            map,
             answer: Answer::Refused(number),
         }
     }
 
-    // A step that leaves the protection registers alone, and with them the map.
-    fn on_registers(self, map: Map, outcome: Outcome) -> Stepped
-        ensures { λ r. ⌜ r ≡ handedBack map (onRegisters self outcome) ⌝ }
+    // A step that leaves the protection registers alone.
+    fn on_registers(self, outcome: Outcome) -> Effect
+        ensures { λ r. ⌜ r ≡ onRegisters self outcome ⌝ }
     {
         let registers = outcome.registers;
         let answer = outcome.answer;
         let pmp = self.pmp;
         let hart = Hart { registers, pmp };
-        Stepped { hart, map, answer }
+        Effect { hart, answer }
     }
 
-    // A CSR step: the map is compiled anew where a protection register differs.
-    fn csr_step(self, map: Map, operation: Operation, number: u64, operand: u64) -> Stepped
-        ensures { λ r. ⌜ r ≡ withMap self map (csrStep self operation number operand) ⌝ }
+    fn csr_step(self, operation: Operation, number: u64, operand: u64) -> Effect
+        ensures { λ r. ⌜ r ≡ csrStep self operation number operand ⌝ }
     {
         if 4095 < number {
-            return self.refuse(map, 2);
+            return self.refuse(2);
         }
         let registers = self.registers;
         if csr::is_illegal(registers, operation, number) {
-            return self.on_registers(map, trap::enter::illegal_instruction(registers));
+            return self.on_registers(trap::enter::illegal_instruction(registers));
         }
         let pmp = self.pmp;
         let state = State { registers, pmp };
@@ -102,8 +132,97 @@ impl Hart {
             registers: changed,
             pmp: after,
         };
-        let answer = Answer::DoneValue(old);
-        if registers::same_pmp(pmp, after) {
+        Effect {
+            hart,
+            answer: Answer::DoneValue(old),
+        }
+    }
+
+    // An access, judged on the registers.
+    fn access_at(self, access: Access, address: u64, size: u64) -> Effect
+        ensures { λ r. ⌜ r ≡ accessAt self access address size ⌝ }
+    {
+        let registers = self.registers;
+        let pmp = self.pmp;
+        let cfgs = pmp.cfgs;
+        let addrs = pmp.addrs;
+        let mode = registers::effective_mode(registers, access);
+        match pmp::check(cfgs, addrs, mode, access, address, size) {
+            Decision::Granted => Effect {
+                hart: self,
+                answer: Answer::Granted,
+            },
+            Decision::Fault(cause) => {
+                self.on_registers(trap::enter::raise(registers, cause, address))
+            }
+            Decision::Refused(number) => self.refuse(number),
+        }
+    }
+
+    fn access_step(self, access: Access, address: u64, size: u64) -> Effect
+        ensures { λ r. ⌜ r ≡ accessStep self access address size ⌝ }
+    {
+        match access {
+            Access::Fetch => {
+                let registers = self.registers;
+                self.access_at(Access::Fetch, registers.pc, 4)
+            }
+            Access::Load => self.access_at(Access::Load, address, size),
+            Access::Store => self.access_at(Access::Store, address, size),
+        }
+    }
+
+    // What a step does to the hart and answers. Refusal 3 is not judged here, and no map is read.
+    pub fn effect(self, step: Step) -> Effect
+        ensures { λ r. ⌜ r ≡ effect self step ⌝ }
+    {
+        let registers = self.registers;
+        match step {
+            Step::Reset => {
+                let registers = registers::reset_registers();
+                let pmp = registers::reset_pmp();
+                let hart = Hart { registers, pmp };
+                Effect {
+                    hart,
+                    answer: Answer::Done,
+                }
+            }
+            Step::Csr(operation, number, operand) => self.csr_step(operation, number, operand),
+            Step::Raise(cause, tval) => {
+                self.on_registers(trap::time::raise_step(registers, cause, tval))
+            }
+            Step::Lines(lines) => self.on_registers(trap::time::lines_step(registers, lines)),
+            Step::TakeInterrupt => self.on_registers(trap::interrupt::take_interrupt(registers)),
+            Step::Mret => {
+                self.on_registers(trap::returns::return_from(Level::Machine, registers))
+            }
+            Step::Sret => {
+                self.on_registers(trap::returns::return_from(Level::Supervisor, registers))
+            }
+            Step::Wfi => self.on_registers(trap::returns::wait(registers)),
+            Step::Ecall => self.on_registers(trap::enter::environment_call(registers)),
+            Step::Ebreak => self.on_registers(trap::enter::breakpoint(registers)),
+            Step::Advance(target) => self.on_registers(trap::time::advance(registers, target)),
+            Step::Access(access, address, size) => self.access_step(access, address, size),
+            Step::Elapsed(cycles, retired) => {
+                self.on_registers(trap::time::elapse(registers, cycles, retired))
+            }
+        }
+    }
+
+    // A step of a state that a hart can hold: the map is compiled anew where a protection register differs, and at a reset.
+    pub fn transition(self, map: Map, step: Step) -> Stepped
+        ensures { λ r. ⌜ r ≡ transition self map step ⌝ }
+    {
+        let next = self.effect(step);
+        let hart = next.hart;
+        let answer = next.answer;
+        if !may_remap(step) {
+            return Stepped { hart, map, answer };
+        }
+        let before = self.pmp;
+        let after = hart.pmp;
+        if !is_reset(step) & registers::same_pmp(before, after) {
             return Stepped { hart, map, answer };
         }
         let cfgs = after.cfgs;
@@ -116,85 +235,6 @@ impl Hart {
         }
     }
 
-    // An access, judged on the registers.
-    fn access_at(self, map: Map, access: Access, address: u64, size: u64) -> Stepped
-        ensures { λ r. ⌜ r ≡ handedBack map (accessAt self access address size) ⌝ }
-    {
-        let registers = self.registers;
-        let pmp = self.pmp;
-        let cfgs = pmp.cfgs;
-        let addrs = pmp.addrs;
-        let mode = registers::effective_mode(registers, access);
-        match pmp::check(cfgs, addrs, mode, access, address, size) {
-            Decision::Granted => Stepped {
-                hart: self,
-                map,
-                answer: Answer::Granted,
-            },
-            Decision::Fault(cause) => {
-                self.on_registers(map, trap::enter::raise(registers, cause, address))
-            }
-            Decision::Refused(number) => self.refuse(map, number),
-        }
-    }
-
-    fn access_step(self, map: Map, access: Access, address: u64, size: u64) -> Stepped
-        ensures { λ r. ⌜ r ≡ handedBack map (accessStep self access address size) ⌝ }
-    {
-        match access {
-            Access::Fetch => {
-                let registers = self.registers;
-                self.access_at(map, Access::Fetch, registers.pc, 4)
-            }
-            Access::Load => self.access_at(map, Access::Load, address, size),
-            Access::Store => self.access_at(map, Access::Store, address, size),
-        }
-    }
-
-    // One step of a state that a hart can hold; refusal 3 is not judged here.
-    pub fn transition(self, map: Map, step: Step) -> Stepped
-        ensures { λ r. ⌜ r ≡ transition self map step ⌝ }
-    {
-        let registers = self.registers;
-        match step {
-            Step::Reset => {
-                let start = Hart::reset();
-                let hart = start.hart;
-                let fresh = start.map;
-                Stepped {
-                    hart,
-                    map: fresh,
-                    answer: Answer::Done,
-                }
-            }
-            Step::Csr(operation, number, operand) => self.csr_step(map, operation, number, operand),
-            Step::Raise(cause, tval) => {
-                self.on_registers(map, trap::time::raise_step(registers, cause, tval))
-            }
-            Step::Lines(lines) => self.on_registers(map, trap::time::lines_step(registers, lines)),
-            Step::TakeInterrupt => self.on_registers(
-                map,
-                trap::interrupt::take_interrupt(registers),
-            ),
-            Step::Mret => self.on_registers(
-                map,
-                trap::returns::return_from(Level::Machine, registers),
-            ),
-            Step::Sret => self.on_registers(
-                map,
-                trap::returns::return_from(Level::Supervisor, registers),
-            ),
-            Step::Wfi => self.on_registers(map, trap::returns::wait(registers)),
-            Step::Ecall => self.on_registers(map, trap::enter::environment_call(registers)),
-            Step::Ebreak => self.on_registers(map, trap::enter::breakpoint(registers)),
-            Step::Advance(target) => self.on_registers(map, trap::time::advance(registers, target)),
-            Step::Access(access, address, size) => self.access_step(map, access, address, size),
-            Step::Elapsed(cycles, retired) => {
-                self.on_registers(map, trap::time::elapse(registers, cycles, retired))
-            }
-        }
-    }
-
     // One step: what 01's "Steps" says of it. A refusal hands back hart and map as they were.
     pub fn step(self, map: Map, step: Step) -> Stepped
         ensures { λ r. ⌜ r ≡ stepped self map step ⌝ }
@@ -202,7 +242,11 @@ impl Hart {
         if is_reset(step) | self.can_hold() {
             self.transition(map, step)
         } else {
-            self.refuse(map, 3)
+            Stepped {
+                hart: self,
+                map,
+                answer: Answer::Refused(3),
+            }
         }
     }
 }

@@ -1,10 +1,9 @@
 -- That a hart can hold its registers: taken apart by register, put together, and kept where a group of them is replaced.
-use Prim.Native.Nat.{ℕ}
+use Prim.Native.Nat.{ℕ, _%_}
 use mathlib.Core.Path.{_≡_, refl, sym, _∙_}
-use mathlib.Core.Bool.{Bool, true, not, _&&_}
+use mathlib.Core.Bool.{true, not}
 use lib.Bits.{bitAnd}
 use lib.Dec.{eqb, ltb}
-use Prim.Native.Nat.{_%_}
 use Rattle.bits.specs.Mask.{within}
 use Rattle.bits.proofs.Conjunction.{both, join}
 use Rattle.registers.specs.declared.Level.{Level}

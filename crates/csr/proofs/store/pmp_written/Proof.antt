@@ -1,15 +1,9 @@
 use borrow.Author.Tests.{ne-eqb}
 use borrow.Author.Needs.{needs}
 use Rattle.csr.specs.Store.{pmpWritten}
-use Rattle.csr.proofs.Numbers.{address-number}
+use Rattle.csr.proofs.Numbers.{entry-number}
 use Rattle.csr.proofs.store.pmp_written.Statement.{statement}
 use Rattle.csr.proofs.store.pmp_written.Tie as tie
-
-entry-of-requires : tie.Need-entry-of-requires
-entry-of-requires c κs =
-    let r = c .match .rest in
-    let entry = c .before .before in
-    address-number (entry .args .n) (entry .pre) (r .0 .1) (r .1)
 
 returns : tie.Need-returns
 unfolding pmpWritten
@@ -22,9 +16,10 @@ returns-2 c = rw (c .before .match .keys2, c .configs-written2 .ensures)
 returns-3 : tie.Need-returns-3
 unfolding pmpWritten
 returns-3 c =
-    let entry = c .before .before in
-    let r = entry .before .match .rest in
-    rw (ne-eqb _ _ (r .0 .1), ne-eqb _ _ (r .1), c .address-written .ensures, entry .entry-of .ensures .0)
+    let m = c .before .before in
+    let r = m .match .rest in
+    let s = m .before .before in
+    rw (ne-eqb _ _ (r .0 .1), ne-eqb _ _ (r .1), c .address-written .ensures, entry-number (s .args .n) (s .pre) (r .0 .1) (r .1))
 
 pub pmp-written-spec : {M : Type 1} → statement M
 pmp-written-spec =
@@ -32,7 +27,6 @@ pmp-written-spec =
     (tie.spec
     (λ c κs. search needs)
     (λ c κs. search needs)
-    entry-of-requires
     (λ c. search needs)
     (λ c. search needs)
     (λ c κs. search needs)

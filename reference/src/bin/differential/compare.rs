@@ -1,0 +1,111 @@
+//! One step or list of steps on both sides.
+
+use reference::random::Random;
+use reference::{HART_WORDS, Hart, MAP_WORDS, Map, Step, capi, generate, step};
+
+use crate::report::{answer_text, map_text, show, state_difference, state_text};
+
+/// The words of a hart and its map.
+#[derive(Clone, PartialEq, Eq)]
+pub struct Lent {
+    pub hart: [u64; HART_WORDS],
+    pub map: [u64; MAP_WORDS],
+}
+
+impl Lent {
+    /// A state, most often one a hart can hold, and a map, lawful or not.
+    pub fn random(random: &mut Random) -> Lent {
+        let held = generate::holdable(random);
+        let map = generate::map(random, &held).to_words();
+        let hart = if random.once_in(8) { generate::damaged(random) } else { held.to_words() };
+        Lent { hart, map }
+    }
+
+    pub fn text(&self) -> String {
+        format!("state\n{}map\n{}", state_text(&self.hart), map_text(&self.map))
+    }
+
+    /// The model's step: what it leaves, and its answer.
+    pub fn reference_step(&self, words: [u64; 3]) -> (Lent, [u64; 3]) {
+        let mut hart = Hart::from_words(&self.hart);
+        let mut map = Map::from_words(&self.map);
+        let next = Step::from_words(words[0], words[1], words[2]).expect("a step there is");
+        let answer = step(&mut hart, &mut map, next).words();
+        (Lent { hart: hart.to_words(), map: map.to_words() }, answer)
+    }
+
+    /// The product's step, which must find all it is lent in order. The answer
+    /// is lent full of other words, so that each has to be written.
+    pub fn product_step(&self, words: [u64; 3]) -> Result<(Lent, [u64; 3]), String> {
+        show(|| format!("{}step {words:x?}", self.text()));
+        let mut after = self.clone();
+        let mut answer = [u64::MAX, 0x5555, 0xAAAA];
+        match capi::step(&mut after.hart, &mut after.map, words, &mut answer) {
+            1 => Ok((after, answer)),
+            given => Err(format!("the step's call gives {given}")),
+        }
+    }
+
+    /// Whether the step must hand back a map made anew.
+    pub fn makes_map(&self, after: &Lent, number: u64) -> bool {
+        number == 0 || self.hart[23..] != after.hart[23..]
+    }
+}
+
+/// Where two maps differ. Of a map made anew only the ranges it lists are
+/// fixed; one handed back as given must have every word as before.
+pub fn map_difference(
+    expected: &[u64; MAP_WORDS],
+    found: &[u64; MAP_WORDS],
+    made_anew: bool,
+) -> Option<String> {
+    let fixed = if made_anew { 1 + 3 * expected[0] as usize } else { MAP_WORDS };
+    if expected[..fixed] == found[..fixed] {
+        return None;
+    }
+    let place = (0..fixed).find(|&place| expected[place] != found[place]);
+    Some(format!(
+        "maps differ, first in word {}\nreference\n{}product\n{}",
+        place.unwrap_or(0),
+        map_text(expected),
+        map_text(found)
+    ))
+}
+
+/// Where two results differ: answers, states or maps.
+pub fn result_difference(
+    expected: &(Lent, [u64; 3]),
+    found: &(Lent, [u64; 3]),
+    made_anew: bool,
+) -> Option<String> {
+    let mut text = String::new();
+    if expected.1 != found.1 {
+        text += "answers differ\n";
+    }
+    if expected.0.hart != found.0.hart {
+        text += &format!("states differ\n{}", state_difference(&expected.0.hart, &found.0.hart));
+    }
+    if let Some(difference) = map_difference(&expected.0.map, &found.0.map, made_anew) {
+        text += &difference;
+    }
+    if text.is_empty() {
+        return None;
+    }
+    let answers = [expected.1, found.1].map(answer_text);
+    Some(format!("reference: {}\nproduct: {}\n{text}", answers[0], answers[1]))
+}
+
+/// One step on both sides, from the same state and map.
+pub fn compare_step(lent: &Lent, words: [u64; 3]) -> Result<(), String> {
+    let told = |text| {
+        let [number, a, b] = words;
+        format!("{}step {number}, a {a:016x}, b {b:016x}\n{text}", lent.text())
+    };
+    let expected = lent.reference_step(words);
+    let found = lent.product_step(words).map_err(told)?;
+    let made_anew = lent.makes_map(&expected.0, words[0]);
+    match result_difference(&expected, &found, made_anew) {
+        Some(text) => Err(told(text)),
+        None => Ok(()),
+    }
+}

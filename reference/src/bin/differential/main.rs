@@ -1,0 +1,68 @@
+//! Compares the product with the model on random calls, and stops at the first
+//! difference.
+//!
+//! `differential [small] [loud] [only=N] [seed=N] [walks=N] [steps=N] [runs=N]
+//! [queries=N] [texts=N] [calls=N]`: numbers are decimal; one walk is every CSR number in
+//! every mode by every operation, every bit of every word of a state and every
+//! configuration byte, and every place of a text with telling bytes. Should the
+//! product end the program, `loud` tells the case, and `only` what it was lent.
+
+mod calls;
+mod compare;
+mod held;
+mod queries;
+mod report;
+mod runs;
+mod sizes;
+mod steps;
+mod texts;
+
+use std::process::ExitCode;
+use std::time::Instant;
+
+use report::Difference;
+use sizes::Sizes;
+
+fn main() -> ExitCode {
+    let sizes = match Sizes::from_arguments(std::env::args().skip(1)) {
+        Ok(sizes) => sizes,
+        Err(message) => {
+            eprintln!("differential: {message}");
+            return ExitCode::FAILURE;
+        }
+    };
+    println!("seed {}", sizes.seed);
+    let start = Instant::now();
+    match compare_all(&sizes) {
+        Ok(counts) => {
+            println!("{:.1} seconds", start.elapsed().as_secs_f64());
+            println!("{counts}: 0 differences");
+            ExitCode::SUCCESS
+        }
+        Err(difference) => {
+            println!("{difference}");
+            ExitCode::FAILURE
+        }
+    }
+}
+
+fn compare_all(sizes: &Sizes) -> Result<String, Difference> {
+    let walked = steps::walk(sizes)?;
+    let held = held::walk(sizes)?;
+    let spelled = texts::walk(sizes)?;
+    steps::random(sizes)?;
+    let run_steps = runs::random(sizes)?;
+    queries::random(sizes)?;
+    texts::restored(sizes)?;
+    texts::saved(sizes)?;
+    calls::wrong(sizes)?;
+    if let Some(case) = sizes.only {
+        return Ok(format!("case {case} alone of each stage"));
+    }
+    Ok(format!(
+        "{walked} steps of CSR walks, {held} states with one word changed, {spelled} texts \
+         with one byte changed, {} random steps, {} runs of {run_steps} steps, {} queries, \
+         {} texts read, {} texts saved, {} wrong calls",
+        sizes.steps, sizes.runs, sizes.queries, sizes.texts, sizes.texts, sizes.calls
+    ))
+}

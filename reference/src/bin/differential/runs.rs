@@ -1,0 +1,71 @@
+//! Lists of steps: the product's run against both programs step by step.
+
+use reference::random::Random;
+use reference::{Hart, Map, capi};
+
+use crate::compare::{Lent, map_difference, result_difference};
+use crate::report::{Difference, Stage, show};
+use crate::sizes::Sizes;
+use crate::steps::random_step;
+
+/// Gives the number of steps in all runs together.
+pub fn random(sizes: &Sizes) -> Result<u64, Difference> {
+    let mut steps = 0;
+    Stage::new("runs", sizes, sizes.runs).run(|random, _| {
+        let start = random_start(random);
+        let length = if random.once_in(50) { random.below(1000) } else { random.below(60) };
+        steps += length;
+        compare_run(random, &start, length)
+    })?;
+    Ok(steps)
+}
+
+fn random_start(random: &mut Random) -> Lent {
+    match random.below(4) {
+        0 => Lent { hart: Hart::reset().to_words(), map: Map::reset().to_words() },
+        _ => Lent::random(random),
+    }
+}
+
+fn compare_run(random: &mut Random, start: &Lent, length: u64) -> Result<(), String> {
+    let (mut expected, mut found) = (start.clone(), start.clone());
+    let (mut steps, mut answers) = (Vec::new(), Vec::new());
+    let mut made_anew = false;
+    for place in 0..length {
+        let words = random_step(random, &expected);
+        steps.extend(words);
+        let told = |text| tell(start, &steps, &format!("step {place} of the list\n{text}"));
+        let after = expected.reference_step(words);
+        let product = found.product_step(words).map_err(told)?;
+        made_anew |= expected.makes_map(&after.0, words[0]);
+        if let Some(text) = result_difference(&after, &product, made_anew) {
+            return Err(told(text));
+        }
+        answers.extend(after.1);
+        (expected, found) = (after.0, product.0);
+    }
+    show(|| tell(start, &steps, "run"));
+    let mut left = start.clone();
+    let mut given = vec![u64::MAX; answers.len()];
+    let call = capi::run(&mut left.hart, &mut left.map, &steps, &mut given);
+    let same_map = map_difference(&found.map, &left.map, made_anew).is_none();
+    let same = call == 1 && given == answers && left.hart == found.hart && same_map;
+    if same { Ok(()) } else { Err(tell_run(start, &steps, &answers, &given, call)) }
+}
+
+fn tell(start: &Lent, steps: &[u64], text: &str) -> String {
+    let list: String = steps
+        .chunks_exact(3)
+        .map(|step| format!("  step {}, a {:016x}, b {:016x}\n", step[0], step[1], step[2]))
+        .collect();
+    format!("{}steps\n{list}{text}", start.text())
+}
+
+fn tell_run(start: &Lent, steps: &[u64], answers: &[u64], given: &[u64], call: u64) -> String {
+    let place = (0..answers.len()).find(|&place| answers[place] != given[place]);
+    let text = match place {
+        Some(place) => format!("the answer of step {} of the run differs", place / 3),
+        None => "the run leaves another state or map than its steps one by one".into(),
+    };
+    tell(start, steps, &format!("the run's call gives {call}; {text}"))
+}

@@ -1,0 +1,105 @@
+//! Texts read back and saved.
+
+use reference::random::Random;
+use reference::{
+    HART_WORDS, Hart, MAP_WORDS, Refusal, TEXT_LENGTH, capi, form, generate, restore, save,
+};
+
+use crate::compare::{Lent, map_difference};
+use crate::report::{Difference, Stage, show, state_difference, state_text};
+use crate::sizes::Sizes;
+
+/// Bytes to put anywhere: the neighbours of the digits, letters in both cases,
+/// and what ends lines or texts.
+const TELLING: &[u8] = b"0189afAFgG/:@`= \t\r\n\0ms_+\x80\xB0\xE1\xFF";
+
+/// Each place of a text with each of the telling bytes. Gives the number of
+/// texts.
+pub fn walk(sizes: &Sizes) -> Result<u64, Difference> {
+    let texts = sizes.walks * (TEXT_LENGTH * TELLING.len()) as u64;
+    Stage::new("texts walked", sizes, texts).run(|random, case| {
+        let case = case as usize;
+        let mut text = form(&generate::holdable(random).to_words());
+        text[case / TELLING.len() % TEXT_LENGTH] = TELLING[case % TELLING.len()];
+        compare_restore(&text, &other_words(random))
+    })?;
+    Ok(texts)
+}
+
+/// Texts whole and damaged, read into words that hold something else.
+pub fn restored(sizes: &Sizes) -> Result<(), Difference> {
+    Stage::new("texts read", sizes, sizes.texts).run(|random, _| {
+        let text = generate::text(random);
+        compare_restore(&text, &other_words(random))
+    })
+}
+
+fn other_words(random: &mut Random) -> Lent {
+    if random.once_in(2) {
+        return Lent::random(random);
+    }
+    Lent {
+        hart: std::array::from_fn::<u64, HART_WORDS, _>(|_| random.word()),
+        map: std::array::from_fn::<u64, MAP_WORDS, _>(|_| random.word()),
+    }
+}
+
+pub fn compare_restore(text: &[u8], lent: &Lent) -> Result<(), String> {
+    show(|| format!("text\n{}", text.escape_ascii()));
+    restore_difference(text, lent)
+        .map_err(|difference| format!("text\n{}\n{difference}", text.escape_ascii()))
+}
+
+fn restore_difference(text: &[u8], lent: &Lent) -> Result<(), String> {
+    let mut found = lent.clone();
+    let call = capi::restore(text, &mut found.hart, &mut found.map);
+    let (number, expected) = match restore(text) {
+        Ok((hart, map)) => (0, Lent { hart: hart.to_words(), map: map.to_words() }),
+        Err(refusal) => (refusal.number(), lent.clone()),
+    };
+    if call != number {
+        return Err(format!("reference gives {number}, product {call}"));
+    }
+    if found.hart != expected.hart {
+        let difference = state_difference(&expected.hart, &found.hart);
+        return Err(format!("both give {call}; states differ\n{difference}"));
+    }
+    map_difference(&expected.map, &found.map, number == 0).map_or(Ok(()), Err)
+}
+
+/// States saved into buffers too short, just long enough, and longer.
+pub fn saved(sizes: &Sizes) -> Result<(), Difference> {
+    Stage::new("texts saved", sizes, sizes.texts).run(|random, _| {
+        let hart = Lent::random(random).hart;
+        let length = buffer_length(random);
+        let filling = random.word();
+        let buffer: Vec<u8> = (0..length).map(|place| (filling >> (place % 57)) as u8).collect();
+        compare_save(&hart, &buffer)
+    })
+}
+
+fn buffer_length(random: &mut Random) -> usize {
+    match random.below(4) {
+        0 => random.index(TEXT_LENGTH + 1),
+        1 => TEXT_LENGTH - random.index(2),
+        2 => TEXT_LENGTH,
+        _ => TEXT_LENGTH + random.index(100),
+    }
+}
+
+pub fn compare_save(words: &[u64; HART_WORDS], buffer: &[u8]) -> Result<(), String> {
+    show(|| format!("saving\n{}into {} bytes", state_text(words), buffer.len()));
+    let (mut expected, mut found) = (buffer.to_vec(), buffer.to_vec());
+    let number = save(&Hart::from_words(words), &mut expected).map_or_else(Refusal::number, |()| 0);
+    let call = capi::save(words, &mut found);
+    if call == number && expected == found {
+        return Ok(());
+    }
+    let place = (0..buffer.len()).find(|&place| expected[place] != found[place]);
+    Err(format!(
+        "state\n{}a buffer of {} bytes: reference gives {number}, product {call}; \
+         first byte that differs: {place:?}",
+        state_text(words),
+        buffer.len()
+    ))
+}

@@ -1,0 +1,66 @@
+//! Texts that are refused, broken records, bytes left over, and no input.
+
+use reference::{Hart, form};
+
+use crate::vector::{Vector, records, saved};
+
+pub fn vectors() -> Vec<Vector> {
+    [texts(), broken_records(), ends()].concat()
+}
+
+fn texts() -> Vec<Vector> {
+    let whole = saved(&Hart::reset());
+    let mut words = Hart::reset().to_words();
+    words[0] = 2;
+    let replaced =
+        |from: &str, to: &str| String::from_utf8_lossy(&whole).replacen(from, to, 1).into_bytes();
+    [
+        ("text-short", whole[..1026].to_vec()),
+        ("text-long", [&whole[..], b"\n"].concat()),
+        ("text-empty", Vec::new()),
+        ("text-upper-case", replaced("a00000000", "A00000000")),
+        ("text-carriage-return", replaced("\n", "\r\n")),
+        ("text-keys-swapped", replaced("mie=0000000000000000\nmip", "mip=0000000000000000\nmie")),
+        ("text-mode-2", form(&words).to_vec()),
+        ("text-mpp-2", replaced("mstatus=0000000a00000000", "mstatus=0000000a00001000")),
+        ("text-write-without-read", replaced("pmpcfg2=00", "pmpcfg2=02")),
+    ]
+    .into_iter()
+    .map(|(name, start)| Vector::new(name, Some(start), records(&[[11, 0, 0]])))
+    .collect()
+}
+
+/// Two good records, a broken one, and two that must not be read.
+fn broken_records() -> Vec<Vector> {
+    let good = records(&[[1, 0x340, 0xABCD], [11, 0, 0]]);
+    let with = |middle: &[u8]| [&good[..], middle, &good[..]].concat();
+    let damaged = |place: usize, byte: u8| {
+        let mut record = records(&[[1, 0x340, 0xABCD]]);
+        record[place] = byte;
+        record
+    };
+    [
+        ("record-step-18", with(&records(&[[18, 0, 0]]))),
+        ("record-unused-argument", with(&records(&[[4, 0x340, 1]]))),
+        ("record-unused-arguments", with(&records(&[[8, 1, 0]]))),
+        ("record-upper-case", with(&damaged(58, b'D'))),
+        ("record-carriage-return", with(&damaged(21, b'\r'))),
+        ("record-key", with(&damaged(22, b'A'))),
+        ("record-first", [records(&[[0, 1, 0]]), good.clone()].concat()),
+    ]
+    .into_iter()
+    .map(|(name, trace)| Vector::new(name, None, trace))
+    .collect()
+}
+
+fn ends() -> Vec<Vector> {
+    let steps = records(&[[1, 0x340, 1], [2, 0x340, 2], [4, 0x340, 0]]);
+    let start = Hart { mscratch: 0xFEED, pc: u64::MAX - 3, ..Hart::reset() };
+    vec![
+        Vector::new("left-1", None, [&steps[..], b"s"].concat()),
+        Vector::new("left-59", Some(saved(&start)), [&steps[..], &steps[..59]].concat()),
+        Vector::new("left-of-garbage", None, vec![0xFF; 59]),
+        Vector::new("empty", None, Vec::new()),
+        Vector::new("empty-with-start", Some(saved(&start)), Vec::new()),
+    ]
+}

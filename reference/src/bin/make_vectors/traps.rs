@@ -1,0 +1,135 @@
+//! Traps, delegation, interrupts, returns and time.
+
+use reference::random::Random;
+use reference::{Hart, MACHINE, Map, SUPERVISOR, Step, USER, generate, step};
+
+use crate::vector::Vector;
+
+const WRITE: u64 = 1;
+const SET: u64 = 2;
+const LINES: u64 = 6;
+const TAKE: u64 = 7;
+const MRET: u64 = 8;
+const SRET: u64 = 9;
+const WFI: u64 = 10;
+const MSTATUS: u64 = 0x300;
+
+pub fn vectors(seed: u64) -> Vec<Vector> {
+    vec![
+        exceptions(),
+        environment_calls(),
+        interrupts(),
+        returns(),
+        time(),
+        any_steps(&mut Random::new(seed)),
+    ]
+}
+
+fn enter(mode: u64) -> [[u64; 3]; 4] {
+    [[3, MSTATUS, 3 << 11], [SET, MSTATUS, mode << 11], [WRITE, 0x341, 0x4000], [MRET, 0, 0]]
+}
+
+/// Every cause from every mode, delegated or not. M is always reached again by
+/// ECALL, whose causes 8 and 9 are not delegated.
+fn exceptions() -> Vector {
+    let mut steps = vec![[WRITE, 0x305, 0x8000_0001], [WRITE, 0x105, 0x9000_0001]];
+    for medeleg in [0, 0xFF, 0x55] {
+        for mode in [USER, SUPERVISOR, MACHINE] {
+            for cause in 0..10 {
+                steps.push([WRITE, 0x302, medeleg]);
+                steps.extend(enter(mode));
+                steps.push([5, cause, 0xABCD_0000 + cause]);
+                steps.extend([[12, 0, 0], [13, 0x1_0002, 0], [4, 0x7C0, 0], [11, 0, 0]]);
+            }
+        }
+    }
+    Vector::of_steps("exceptions", None, &steps)
+}
+
+/// ECALL from every mode under every delegation of its causes; EBREAK, which
+/// is not delegated, leads back to M.
+fn environment_calls() -> Vector {
+    let mut steps = vec![[WRITE, 0x305, 0x8000_0001], [WRITE, 0x105, 0x9000_0001]];
+    for medeleg in [0, 0x100, 0x200, 0x300] {
+        for mode in [USER, SUPERVISOR, MACHINE] {
+            steps.push([WRITE, 0x302, medeleg]);
+            steps.extend(enter(mode));
+            steps.extend([[11, 0, 0], [11, 0, 0], [12, 0, 0], [4, 0x342, 0], [4, 0x142, 0]]);
+        }
+    }
+    Vector::of_steps("environment-calls", None, &steps)
+}
+
+/// Interrupts of all lines, of one that can be delegated, and of software
+/// alone, in every mode, under no, all and one delegation, and with each of the
+/// global enables. The ECALLs, not delegated, lead back to M.
+fn interrupts() -> Vector {
+    let mut steps = vec![[WRITE, 0x305, 0x8000_0001], [WRITE, 0x105, u64::MAX - 2]];
+    steps.push([WRITE, 0x304, u64::MAX]);
+    for mideleg in [0, 0x222, 0x020] {
+        for mode in [USER, SUPERVISOR, MACHINE] {
+            for enables in [0, 0x82] {
+                for (lines, software) in [(0xA88, 0x222), (0x200, 0), (0, 0x22), (0, 0)] {
+                    steps.extend([[WRITE, 0x303, mideleg], [WRITE, MSTATUS, enables]]);
+                    steps.extend([[WRITE, 0x344, software], [LINES, lines, 0]]);
+                    steps.extend(enter(mode));
+                    steps.extend([[TAKE, 0, 0], [TAKE, 0, 0], [WFI, 0, 0], [4, 0x144, 0]]);
+                    steps.extend([[11, 0, 0], [11, 0, 0], [4, 0x142, 0]]);
+                }
+            }
+        }
+    }
+    Vector::of_steps("interrupts", None, &steps)
+}
+
+/// MRET, SRET and WFI in every mode under each of TW and TSR, with MPRV.
+fn returns() -> Vector {
+    let mut steps = Vec::new();
+    for mode in [USER, SUPERVISOR, MACHINE] {
+        for bits in [0, 1 << 21, 1 << 22, 0x62_0000, 0x2_01A0] {
+            for back in [MRET, SRET, WFI] {
+                steps.push([WRITE, MSTATUS, bits | mode << 11]);
+                steps.extend([[WRITE, 0x341, 0x5000], [WRITE, 0x141, 0x6000], [MRET, 0, 0]]);
+                steps.extend([[back, 0, 0], [16, 0x100, 8], [14, 0, 0], [11, 0, 0], [11, 0, 0]]);
+            }
+        }
+    }
+    Vector::of_steps("returns", None, &steps)
+}
+
+fn time() -> Vector {
+    let start = Hart { mcycle: u64::MAX, minstret: u64::MAX - 1, ..Hart::reset() };
+    let steps = [
+        [17, 1, 0],
+        [17, 70_000, 3],
+        [WRITE, 0x320, 1],
+        [17, 5, 5],
+        [WRITE, 0x320, 4],
+        [17, 5, 5],
+        [WRITE, 0x320, u64::MAX],
+        [17, 5, 5],
+        [4, 0xC00, 0],
+        [4, 0xC02, 0],
+        [WRITE, 0xB00, 9],
+        [SET, 0xB02, 1 << 63],
+        [4, 0xB00, 0],
+        [4, 0xB02, 0],
+    ];
+    Vector::of_steps("time", Some(&start), &steps)
+}
+
+/// Random steps from a random state; arguments not used are 0, as a trace
+/// demands.
+fn any_steps(random: &mut Random) -> Vector {
+    let start = generate::holdable(random);
+    let (mut hart, mut map) = (start, Map::reset());
+    let steps: Vec<[u64; 3]> = (0..1500)
+        .map(|_| {
+            let words = generate::step(random, &hart, &map);
+            let next = Step::from_words(words[0], words[1], words[2]).expect("a step there is");
+            step(&mut hart, &mut map, next);
+            next.to_words()
+        })
+        .collect();
+    Vector::of_steps("any-steps", Some(&start), &steps)
+}

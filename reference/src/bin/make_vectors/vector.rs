@@ -1,0 +1,50 @@
+//! One stored vector.
+
+use std::fs;
+use std::io;
+use std::path::Path;
+
+use reference::{Hart, form, replay, write_record};
+
+#[derive(Clone)]
+pub struct Vector {
+    pub name: String,
+    pub start: Option<Vec<u8>>,
+    pub trace: Vec<u8>,
+}
+
+impl Vector {
+    pub fn new(name: &str, start: Option<Vec<u8>>, trace: Vec<u8>) -> Vector {
+        Vector { name: name.into(), start, trace }
+    }
+
+    /// A vector of whole records.
+    pub fn of_steps(name: &str, start: Option<&Hart>, steps: &[[u64; 3]]) -> Vector {
+        Vector::new(name, start.map(saved), records(steps))
+    }
+
+    /// Writes the files of the vector, the expected output made by the model.
+    pub fn write(&self, folder: &Path) -> io::Result<()> {
+        let folder = folder.join(&self.name);
+        fs::create_dir_all(&folder)?;
+        if let Some(start) = &self.start {
+            fs::write(folder.join("start"), start)?;
+        }
+        fs::write(folder.join("trace"), &self.trace)?;
+        fs::write(folder.join("expected"), self.expected()?)
+    }
+
+    fn expected(&self) -> io::Result<Vec<u8>> {
+        let mut output = Vec::new();
+        replay(self.start.as_deref(), &mut &self.trace[..], &mut output)?;
+        Ok(output)
+    }
+}
+
+pub fn saved(hart: &Hart) -> Vec<u8> {
+    form(&hart.to_words()).to_vec()
+}
+
+pub fn records(steps: &[[u64; 3]]) -> Vec<u8> {
+    steps.iter().flat_map(|&words| write_record(words)).collect()
+}

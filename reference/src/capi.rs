@@ -1,0 +1,143 @@
+//! The product's word interface, by the C calling convention.
+//!
+//! A hart is `HART_WORDS` words, a map `MAP_WORDS`, a step three and an answer
+//! three. Slices of any length may be lent: the product judges lengths itself.
+#![allow(unsafe_code)]
+
+unsafe extern "C" {
+    fn tegrwyllt_step(
+        hart: *mut u64,
+        hart_length: usize,
+        map: *mut u64,
+        map_length: usize,
+        step: u64,
+        a: u64,
+        b: u64,
+        answer: *mut u64,
+        answer_length: usize,
+    ) -> u64;
+
+    fn tegrwyllt_run(
+        hart: *mut u64,
+        hart_length: usize,
+        map: *mut u64,
+        map_length: usize,
+        steps: *const u64,
+        steps_length: usize,
+        answers: *mut u64,
+        answers_length: usize,
+    ) -> u64;
+
+    fn tegrwyllt_query(
+        hart: *const u64,
+        hart_length: usize,
+        map: *const u64,
+        map_length: usize,
+        mode: u64,
+        kind: u64,
+        address: u64,
+        size: u64,
+        answer: *mut u64,
+        answer_length: usize,
+    ) -> u64;
+
+    fn tegrwyllt_save(
+        hart: *const u64,
+        hart_length: usize,
+        text: *mut u8,
+        text_length: usize,
+    ) -> u64;
+
+    fn tegrwyllt_restore(
+        text: *const u8,
+        text_length: usize,
+        hart: *mut u64,
+        hart_length: usize,
+        map: *mut u64,
+        map_length: usize,
+    ) -> u64;
+}
+
+/// One step; 1, or 0 where a length or the step's number is none there is.
+pub fn step(hart: &mut [u64], map: &mut [u64], step: [u64; 3], answer: &mut [u64]) -> u64 {
+    let [number, a, b] = step;
+    // SAFETY: each pointer comes with the length of the slice it belongs to,
+    // and the slices lent for writing do not overlap; so for all calls below.
+    unsafe {
+        tegrwyllt_step(
+            hart.as_mut_ptr(),
+            hart.len(),
+            map.as_mut_ptr(),
+            map.len(),
+            number,
+            a,
+            b,
+            answer.as_mut_ptr(),
+            answer.len(),
+        )
+    }
+}
+
+/// A list of steps, each given what the one before left; 1 or 0 as for `step`.
+pub fn run(hart: &mut [u64], map: &mut [u64], steps: &[u64], answers: &mut [u64]) -> u64 {
+    unsafe {
+        tegrwyllt_run(
+            hart.as_mut_ptr(),
+            hart.len(),
+            map.as_mut_ptr(),
+            map.len(),
+            steps.as_ptr(),
+            steps.len(),
+            answers.as_mut_ptr(),
+            answers.len(),
+        )
+    }
+}
+
+/// The words of an access query.
+#[derive(Clone, Copy, Debug)]
+pub struct Question {
+    pub mode: u64,
+    /// 0 fetch, 1 load, 2 store.
+    pub kind: u64,
+    pub address: u64,
+    pub size: u64,
+}
+
+/// An access query; 1, or 0 where a length, the mode or the kind is none there
+/// is.
+pub fn query(hart: &[u64], map: &[u64], question: Question, answer: &mut [u64]) -> u64 {
+    unsafe {
+        tegrwyllt_query(
+            hart.as_ptr(),
+            hart.len(),
+            map.as_ptr(),
+            map.len(),
+            question.mode,
+            question.kind,
+            question.address,
+            question.size,
+            answer.as_mut_ptr(),
+            answer.len(),
+        )
+    }
+}
+
+/// Saves a hart; 0, or the number of the refusal.
+pub fn save(hart: &[u64], text: &mut [u8]) -> u64 {
+    unsafe { tegrwyllt_save(hart.as_ptr(), hart.len(), text.as_mut_ptr(), text.len()) }
+}
+
+/// Reads a text back; 0, or the number of the refusal.
+pub fn restore(text: &[u8], hart: &mut [u64], map: &mut [u64]) -> u64 {
+    unsafe {
+        tegrwyllt_restore(
+            text.as_ptr(),
+            text.len(),
+            hart.as_mut_ptr(),
+            hart.len(),
+            map.as_mut_ptr(),
+            map.len(),
+        )
+    }
+}

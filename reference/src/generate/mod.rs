@@ -1,0 +1,14 @@
+//! Random states, maps, steps and texts, biased to where programs go wrong.
+
+mod address;
+mod entries;
+mod map;
+mod state;
+mod step;
+mod text;
+
+pub use address::address;
+pub use map::map;
+pub use state::{damaged, holdable};
+pub use step::{csr_operand, size, step};
+pub use text::text;

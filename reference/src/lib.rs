@@ -1,0 +1,37 @@
+//! An independent model of the leased hart, written from the scope document
+//! alone, for comparison with the product and as its speed baseline.
+#![deny(unsafe_code)]
+
+mod answer;
+#[cfg(feature = "capi")]
+pub mod capi;
+pub mod csr;
+mod execute;
+pub mod generate;
+mod hart;
+mod hexadecimal;
+mod holdable;
+mod interrupt;
+mod map;
+pub mod protection;
+mod query;
+pub mod random;
+mod record;
+mod replay;
+mod returns;
+pub mod status;
+mod step;
+mod text;
+mod trap;
+
+pub use answer::{Answer, Cause, Refusal, Verdict};
+pub use execute::step;
+pub use hart::{HART_WORDS, Hart, MACHINE, Mode, SUPERVISOR, USER};
+pub use holdable::mask;
+pub use map::{MAP_WORDS, Map, NONE, RANGES, Range};
+pub use protection::Access;
+pub use query::query;
+pub use record::{RECORD_LENGTH, read_record, write_record};
+pub use replay::{fill, replay};
+pub use step::{LAST_STEP, Step};
+pub use text::{KEYS, TEXT_LENGTH, form, restore, save};

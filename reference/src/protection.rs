@@ -1,0 +1,103 @@
+//! The byte rule: what each protection entry matches, byte by byte, and what
+//! the lowest matching entry says of an access.
+
+use crate::hart::{Hart, MACHINE};
+
+/// Number of bytes of physical memory.
+pub const MEMORY: u64 = 1 << 56;
+
+/// Values of the A field of a configuration byte.
+pub const OFF: u8 = 0;
+pub const TOR: u8 = 1;
+pub const NA4: u8 = 2;
+pub const NAPOT: u8 = 3;
+
+/// The lock bit of a configuration byte.
+pub const LOCK: u8 = 0x80;
+
+/// The A field of a configuration byte.
+pub fn address_matching(configuration: u8) -> u8 {
+    configuration >> 3 & 3
+}
+
+#[derive(Clone, Copy, PartialEq, Eq, Debug)]
+pub enum Access {
+    Fetch,
+    Load,
+    Store,
+}
+
+impl Access {
+    pub const ALL: [Access; 3] = [Access::Fetch, Access::Load, Access::Store];
+
+    /// The exception of a refused access.
+    pub fn fault(self) -> u64 {
+        match self {
+            Access::Fetch => 1,
+            Access::Load => 5,
+            Access::Store => 7,
+        }
+    }
+
+    /// The bit of a configuration byte that permits this access.
+    fn permission(self) -> u8 {
+        match self {
+            Access::Load => 1,
+            Access::Store => 2,
+            Access::Fetch => 4,
+        }
+    }
+}
+
+/// Whether any byte of the access is at or past the end of memory.
+pub fn leaves_memory(address: u64, size: u64) -> bool {
+    address >= MEMORY || MEMORY - address < size
+}
+
+/// Whether an entry that matches the whole access permits it.
+pub fn permits(configuration: u8, mode: u64, access: Access) -> bool {
+    if mode == MACHINE && configuration & LOCK == 0 {
+        return true;
+    }
+    configuration & access.permission() != 0
+}
+
+impl Hart {
+    /// Whether `entry` matches the one byte at `byte`, which is in memory.
+    pub fn matches(&self, entry: usize, byte: u64) -> bool {
+        let word = byte >> 2;
+        let pmpaddr = self.pmpaddr[entry];
+        match address_matching(self.pmpcfg[entry]) {
+            OFF => false,
+            TOR => self.bottom_of_range(entry) <= word && word < pmpaddr,
+            NA4 => word == pmpaddr,
+            _ => (word ^ pmpaddr) & !free_bits(pmpaddr) == 0,
+        }
+    }
+
+    fn bottom_of_range(&self, entry: usize) -> u64 {
+        if entry == 0 { 0 } else { self.pmpaddr[entry - 1] }
+    }
+
+    /// The byte rule: whether an access of `size` bytes, 1 to 8, is granted in
+    /// the effective mode `mode`.
+    pub fn byte_rule(&self, mode: u64, access: Access, address: u64, size: u64) -> bool {
+        if leaves_memory(address, size) {
+            return false;
+        }
+        for entry in 0..16 {
+            let matched =
+                (0..size).filter(|offset| self.matches(entry, address + offset)).count() as u64;
+            if matched != 0 {
+                return matched == size && permits(self.pmpcfg[entry], mode, access);
+            }
+        }
+        mode == MACHINE
+    }
+}
+
+/// The address bits a NAPOT entry does not compare: the trailing ones of
+/// pmpaddr and the zero above them.
+fn free_bits(pmpaddr: u64) -> u64 {
+    pmpaddr ^ pmpaddr.wrapping_add(1)
+}

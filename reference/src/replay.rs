@@ -1,0 +1,103 @@
+//! Replay of a trace: an answer for each record, then the state left.
+
+use std::io::{self, Read, Write};
+
+use crate::answer::{Answer, Cause, Refusal};
+use crate::execute::step;
+use crate::hart::{Hart, Mode};
+use crate::hexadecimal::word_digits;
+use crate::map::{Map, NONE, Range};
+use crate::record::{RECORD_LENGTH, read_record};
+use crate::text::{form, restore};
+
+/// Replays the records of `input` from a saved text, or from reset, and writes
+/// what it answers. It holds one record at a time, so lend it buffered ends.
+pub fn replay(
+    start: Option<&[u8]>,
+    input: &mut impl Read,
+    output: &mut impl Write,
+) -> io::Result<()> {
+    let (mut hart, mut map) = match start.map(restore) {
+        None => (Hart::reset(), Map::reset()),
+        Some(Ok(started)) => started,
+        Some(Err(refusal)) => return writeln!(output, "refused {}", refusal.number()),
+    };
+    let left = replay_records(&mut hart, &mut map, input, output)?;
+    output.write_all(&form(&hart.to_words()))?;
+    map.listed().iter().try_for_each(|range| write_range(output, range))?;
+    writeln!(output, "left {left}")
+}
+
+/// Gives the number of bytes left over, fewer than a record.
+fn replay_records(
+    hart: &mut Hart,
+    map: &mut Map,
+    input: &mut impl Read,
+    output: &mut impl Write,
+) -> io::Result<usize> {
+    let mut record = [0; RECORD_LENGTH];
+    let mut number: u64 = 0;
+    loop {
+        let length = fill(input, &mut record)?;
+        if length < RECORD_LENGTH {
+            return Ok(length);
+        }
+        let Some(next) = read_record(&record) else {
+            writeln!(output, "refused {} record {number}", Refusal::Record.number())?;
+            return Ok(0);
+        };
+        write_answer(output, step(hart, map, next))?;
+        number = number.wrapping_add(1);
+    }
+}
+
+/// Reads until the buffer is full or the input ends; gives the bytes read.
+pub fn fill(input: &mut impl Read, buffer: &mut [u8]) -> io::Result<usize> {
+    let mut length = 0;
+    while length < buffer.len() {
+        match input.read(&mut buffer[length..]) {
+            Ok(0) => break,
+            Ok(read) => length += read,
+            Err(error) if error.kind() == io::ErrorKind::Interrupted => {}
+            Err(error) => return Err(error),
+        }
+    }
+    Ok(length)
+}
+
+fn write_answer(output: &mut impl Write, answer: Answer) -> io::Result<()> {
+    match answer {
+        Answer::Done => output.write_all(b"done\n"),
+        Answer::Value(value) => {
+            output.write_all(b"done ")?;
+            output.write_all(&word_digits(value))?;
+            output.write_all(b"\n")
+        }
+        Answer::Decision(true) => output.write_all(b"done yes\n"),
+        Answer::Decision(false) => output.write_all(b"done no\n"),
+        Answer::Granted => output.write_all(b"granted\n"),
+        Answer::Trapped { cause, destination } => write_trap(output, cause, destination),
+        Answer::Refused(refusal) => writeln!(output, "refused {}", refusal.number()),
+    }
+}
+
+fn write_trap(output: &mut impl Write, cause: Cause, destination: Mode) -> io::Result<()> {
+    let (kind, code) = match cause {
+        Cause::Exception(code) => ("exception", code),
+        Cause::Interrupt(code) => ("interrupt", code),
+    };
+    let letter = match destination {
+        Mode::User => 'U',
+        Mode::Supervisor => 'S',
+        Mode::Machine => 'M',
+    };
+    writeln!(output, "trapped {kind} {code} to {letter}")
+}
+
+fn write_range(output: &mut impl Write, range: &Range) -> io::Result<()> {
+    write!(output, "range {:016x} {:016x} ", range.first, range.last)?;
+    match range.owner {
+        NONE => writeln!(output, "none"),
+        owner => writeln!(output, "{owner}"),
+    }
+}
