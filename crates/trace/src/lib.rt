@@ -1,5 +1,6 @@
 // A trace: records of steps, and the lines that answer them.
 pub mod reader;
+mod writer;
 
 // The three words of a record.
 pub enum Record {

@@ -1,0 +1,11 @@
+-- Texts written into a buffer, one behind the other.
+use Prim.Native.Nat.{ℕ, _+_}
+use mathlib.Core.Path.{_≡_}
+use mathlib.Core.List.{List}
+use lib.ListN.{length}
+use lib.Seq.{sets}
+
+-- the text stands in the buffer from a place on, and `next` is the place behind it
+pub record Put (buffer : List ℕ) (place : ℕ) (text after : List ℕ) (next : ℕ) : Type 0 where
+  pub bytes : after ≡ sets buffer place text
+  pub behind : next ≡ place + length text
