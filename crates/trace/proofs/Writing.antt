@@ -25,7 +25,7 @@ use Rattle.trace.specs.Answers.{decimalIn, decimal, numberedLine, trapTe
 
 -- ---- one text behind the other
 
-sets-append : (xs l : List ℕ) (i : ℕ) (ys : List ℕ) → sets l i (xs ++ ys) ≡ sets (sets l i xs) (i + length xs) ys
+pub sets-append : (xs l : List ℕ) (i : ℕ) (ys : List ℕ) → sets l i (xs ++ ys) ≡ sets (sets l i xs) (i + length xs) ys
 sets-append [] l i ys = rw (add-zero i)
 sets-append (x ∷ xs) l i ys =
     let e : i + suc (length xs) ≡ suc i + length xs = omega arith in

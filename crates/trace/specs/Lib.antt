@@ -3,3 +3,4 @@ pub mod Records
 pub mod Reader
 pub mod Buffers
 pub mod Answers
+pub mod Batches

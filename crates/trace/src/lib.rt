@@ -1,4 +1,8 @@
 // A trace: records of steps, and the lines that answer them.
+use hart::Hart;
+use map::Map;
+
+pub mod batch;
 pub mod reader;
 mod writer;
 
@@ -12,4 +16,18 @@ pub enum Record {
 struct Field {
     ok: bool,
     word: u64,
+}
+
+// What goes on from one record to the next: the hart with its map, the number of the next record, and whether a broken record ended the replay.
+pub struct Replay {
+    pub hart: Hart,
+    pub map: Map,
+    pub number: u64,
+    pub stopped: bool,
+}
+
+// What a batch of records leaves, and how many bytes of lines it wrote.
+pub struct Written {
+    pub replay: Replay,
+    pub filled: usize,
 }

@@ -7,7 +7,7 @@ ghost use Prim.Native.Nat.{_+_, _≤_};
 ghost use lib.ListN.{length};
 ghost use Rattle.lines.specs.Lines.{hexDigits};
 ghost use Rattle.trace.specs.Buffers.{Put};
-ghost use Rattle.trace.specs.Answers.{decimal, numberedLine, trapText, levelText, answerLine};
+ghost use Rattle.trace.specs.Answers.{decimal, numberedLine, trapText, levelText, answerLine, brokenLine};
 ghost use Rattle.trap.specs.declared.Answer.the-variants.{DoneValue, DoneFlag, Trapped};
 
 // Each function writes from a place on and answers the place behind what it wrote.
@@ -125,4 +125,11 @@ pub(crate) fn put_answer(answer: Answer, out: &mut [u8], place: usize) -> usize
         Answer::Trapped(trap, level) => put_trapped(trap, level, out, place),
         Answer::Refused(number) => put_numbered(b"refused ", number, out, place),
     }
+}
+
+pub(crate) fn put_broken(number: u64, out: &mut [u8], place: usize) -> usize
+    requires { ⌜ place + 64 ≤ length (now out) ⌝ }
+    ensures { λ r. ⌜ Put (now (out .entry)) place (brokenLine number) (now (out .exit)) r ⌝ }
+{
+    put_numbered(b"refused 8 record ", number, out, place)
 }
