@@ -2,3 +2,5 @@
 pub mod Reading
 pub mod Writing
 pub mod Batching
+pub mod Endings
+pub mod Cutting

@@ -5,16 +5,16 @@ use mathlib.Core.Bool.{Bool, true, false, cond}
 use mathlib.Core.List.{List, [], _∷_, _++_}
 use native.Mathlib.Omega.{arith}
 use native.Mathlib.Numerals.{add-one}
-use native.Mathlib.Nat.{add-zero, pow-suc, pow-le-pow-right}
+use native.Mathlib.Nat.{add-zero, zero-add, pow-suc, pow-le-pow-right}
 use lib.Dec.{leb, ltb}
 use lib.Pow.{pow-add}
 use lib.ListN.{length, getD, take, drop, set, length-append, drop-of-length-le}
-use lib.Seq.{sets, drop-cons}
+use lib.Seq.{sets, length-sets, sets-eq, drop-cons}
 use borrow.Author.Tests.{lt-ltb, le-ltb, le-leb, leb-true, leb-false}
 use Rattle.io.specs.Digits.{digits, glyph, Fewest}
 use Rattle.lines.specs.Lines.{bytesOf, hexDigits, hasRoom}
 use Rattle.lines.specs.Places.{withWord}
-use Rattle.trace.specs.Buffers.{Put}
+use Rattle.trace.specs.Buffers.{Put, writtenTo, writtenLength}
 use Rattle.registers.specs.declared.Level.{Level}
 use Rattle.registers.specs.declared.Level.the-variants.{Supervisor, Machine}
 use Rattle.trap.specs.declared.Trap.{Trap}
@@ -36,6 +36,9 @@ put-both {buffer} {middle} {after} {xs} {ys} {p} {q} {r} first second = record {
   bytes = second .bytes ∙ rw (first .bytes, first .behind) (sym (sets-append xs buffer p ys));
   behind = omega (arith, first .behind, second .behind, length-append xs ys);
 }
+
+pub put-length : {buffer after xs : List ℕ} {p q : ℕ} → Put buffer p xs after q → length after ≡ length buffer
+put-length {buffer} {after} {xs} {p} put = ap length (put .bytes) ∙ length-sets buffer p xs
 
 pub put-start : (text buffer : List ℕ) (p : ℕ) → sets buffer p text ≡ sets buffer (p + 0) (drop 0 text)
 put-start text buffer p = rw (add-zero p)
@@ -133,7 +136,7 @@ unfolding levelText bytesOf
 level-length Supervisor = refl
 level-length Machine = refl
 
-numbered-length : (name : List ℕ) (number : ℕ) → length (numberedLine name number) ≤ length name + 21
+pub numbered-length : (name : List ℕ) (number : ℕ) → length (numberedLine name number) ≤ length name + 21
 unfolding bytesOf
 numbered-length name number =
     omega (arith, length-append name (decimal number ++ bytesOf "\n"), length-append (decimal number) (bytesOf "\n"), decimal-length 20 number)
@@ -153,3 +156,17 @@ answer-length (Refused number) = omega (arith, numbered-length (bytesOf "refused
 pub broken-length : (number : ℕ) → length (brokenLine number) ≤ 64
 unfolding brokenLine bytesOf
 broken-length number = omega (arith, numbered-length (bytesOf "refused 8 record ") number)
+
+-- ---- a whole buffer
+
+module _ (room : ℕ) (text buffer : List ℕ) where
+  pub not-written : length buffer < room → (0 ≡ writtenLength room text buffer) × (buffer ≡ writtenTo room text buffer)
+  not-written h = (rw (lt-ltb (length buffer) room h), rw (lt-ltb (length buffer) room h))
+
+  pub written : (after : List ℕ) (next : ℕ) → room ≤ length buffer → length text ≤ room → Put buffer 0 text after next
+      → (next ≡ writtenLength room text buffer) × (after ≡ writtenTo room text buffer)
+  written after next h l put =
+      let z : 0 + length text ≡ length text = zero-add (length text) in (
+        rw (le-ltb (length buffer) room h) (put .behind ∙ z),
+        rw (le-ltb (length buffer) room h) (put .bytes ∙ sets-eq text buffer 0 (omega arith) ∙ ap (λ (n : ℕ). text ++ drop n buffer) z),
+      )

@@ -4,3 +4,4 @@ pub mod Reader
 pub mod Buffers
 pub mod Answers
 pub mod Batches
+pub mod Endings

@@ -3,8 +3,9 @@ use hart::Hart;
 use map::Map;
 
 pub mod batch;
+pub mod ending;
 pub mod reader;
-mod writer;
+pub mod writer;
 
 // The three words of a record.
 pub enum Record {

@@ -6,12 +6,12 @@ ghost use mathlib.Core.Path.{_≡_};
 ghost use Prim.Native.Nat.{_+_, _≤_};
 ghost use lib.ListN.{length};
 ghost use Rattle.lines.specs.Lines.{hexDigits};
-ghost use Rattle.trace.specs.Buffers.{Put};
+ghost use Rattle.trace.specs.Buffers.{Put, writtenTo, writtenLength};
 ghost use Rattle.trace.specs.Answers.{decimal, numberedLine, trapText, levelText, answerLine, brokenLine};
 ghost use Rattle.trap.specs.declared.Answer.the-variants.{DoneValue, DoneFlag, Trapped};
 
 // Each function writes from a place on and answers the place behind what it wrote.
-fn put(text: &[u8], out: &mut [u8], place: usize) -> usize
+pub(crate) fn put(text: &[u8], out: &mut [u8], place: usize) -> usize
     requires { ⌜ place + length (now text) ≤ length (now out) ⌝ }
     ensures { λ r. ⌜ Put (now (out .entry)) place (now (text .entry)) (now (out .exit)) r ⌝ }
 {
@@ -23,7 +23,7 @@ fn put(text: &[u8], out: &mut [u8], place: usize) -> usize
     place + i
 }
 
-fn put_hex(word: u64, out: &mut [u8], place: usize) -> usize
+pub(crate) fn put_hex(word: u64, out: &mut [u8], place: usize) -> usize
     requires { ⌜ place + 16 ≤ length (now out) ⌝ }
     ensures { λ r. ⌜ Put (now (out .entry)) place (hexDigits 16 word) (now (out .exit)) r ⌝ }
 {
@@ -32,7 +32,7 @@ fn put_hex(word: u64, out: &mut [u8], place: usize) -> usize
 }
 
 // Most numbers have one digit.
-fn put_decimal(number: u64, out: &mut [u8], place: usize) -> usize
+pub(crate) fn put_decimal(number: u64, out: &mut [u8], place: usize) -> usize
     requires { ⌜ place + 20 ≤ length (now out) ⌝ }
     ensures { λ r. ⌜ Put (now (out .entry)) place (decimal number) (now (out .exit)) r ⌝ }
 {
@@ -83,7 +83,7 @@ fn put_level(level: Level, out: &mut [u8], place: usize) -> usize
 }
 
 // A line of a name and a number.
-fn put_numbered(name: &[u8], number: u64, out: &mut [u8], place: usize) -> usize
+pub(crate) fn put_numbered(name: &[u8], number: u64, out: &mut [u8], place: usize) -> usize
     requires { ⌜ place + length (now name) + 21 ≤ length (now out) ⌝ }
     ensures { λ r. ⌜ Put (now (out .entry)) place (numberedLine (now (name .entry)) number) (now (out .exit)) r ⌝ }
 {
@@ -132,4 +132,15 @@ pub(crate) fn put_broken(number: u64, out: &mut [u8], place: usize) -> usize
     ensures { λ r. ⌜ Put (now (out .entry)) place (brokenLine number) (now (out .exit)) r ⌝ }
 {
     put_numbered(b"refused 8 record ", number, out, place)
+}
+
+// Writes the line of an answer to the front of a buffer of at least 64 bytes.
+pub fn write_answer(answer: Answer, out: &mut [u8]) -> usize
+    ensures { λ r. ⌜ r ≡ writtenLength 64 (answerLine answer) (now (out .entry)) ⌝ }
+    ensures { λ _. ⌜ now (out .exit) ≡ writtenTo 64 (answerLine answer) (now (out .entry)) ⌝ }
+{
+    if out.len() < 64 {
+        return 0;
+    }
+    put_answer(answer, out, 0)
 }
