@@ -166,7 +166,7 @@ module _ (input before : List ℕ) where
   returned : (after : List ℕ) (start here : Replay) (total filled : ℕ) → total ≡ recordsIn input before
       → (afterRecords total start input ≡ here) × (after ≡ sets before 0 (recordLines total start input)) × (filled ≡ length (recordLines total start input))
       → (_≡_ {A = Written} (record { replay = here; filled = filled }) (batched input before start))
-      × (after ≡ atFront (batchLines input before start) before)
+      × ((after ≡ atFront (batchLines input before start) before) × (filled ≤ length before))
   unfolding batched batchLines
   returned after start here total filled e f =
       let n = recordsIn input before in
@@ -175,23 +175,26 @@ module _ (input before : List ℕ) where
       let b : filled ≡ length lines = f .2 ∙ ap (λ (m : ℕ). length (recordLines m start input)) e in
       let z : 0 + length lines ≡ length lines = zero-add (length lines) in (
         λ j. record { replay = r j; filled = b j },
-        f .1 ∙ ap (λ (m : ℕ). sets before 0 (recordLines m start input)) e ∙ sets-eq lines before 0 (omega (arith, lines-length n start input))
-            ∙ ap (λ (m : ℕ). lines ++ drop m before) z,
+        (
+          f .1 ∙ ap (λ (m : ℕ). sets before 0 (recordLines m start input)) e ∙ sets-eq lines before 0 (omega (arith, lines-length n start input))
+              ∙ ap (λ (m : ℕ). lines ++ drop m before) z,
+          omega (arith, b, lines-length n start input),
+        ),
       )
 
   pub batch-returned : (after : List ℕ) (start here : Replay) (total filled : ℕ) → total ≡ recordsIn input before → start .stopped ≡ false
       → (let begun = going (start .hart) (start .map) (start .number) in
       (afterRecords total begun input ≡ here) × (after ≡ sets before 0 (recordLines total begun input)) × (filled ≡ length (recordLines total begun input)))
       → (_≡_ {A = Written} (record { replay = here; filled = filled }) (batched input before start))
-      × (after ≡ atFront (batchLines input before start) before)
+      × ((after ≡ atFront (batchLines input before start) before) × (filled ≤ length before))
   batch-returned after start here total filled e h f =
       let s = sym (started start h) in
       let g = returned after (going (start .hart) (start .map) (start .number)) here total filled e f in
-      (g .0 ∙ ap (batched input before) s, g .1 ∙ ap (λ (r : Replay). atFront (batchLines input before r) before) s)
+      (g .0 ∙ ap (batched input before) s, (g .1 .0 ∙ ap (λ (r : Replay). atFront (batchLines input before r) before) s, g .1 .1))
 
   pub batch-stopped : (start : Replay) → start .stopped ≡ true
       → (_≡_ {A = Written} (record { replay = start; filled = 0 }) (batched input before start))
-      × (before ≡ atFront (batchLines input before start) before)
+      × ((before ≡ atFront (batchLines input before start) before) × (0 ≤ length before))
   batch-stopped start h =
       let n = recordsIn input before in
       let l = stopped-lines n start input h in

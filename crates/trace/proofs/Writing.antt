@@ -160,13 +160,16 @@ broken-length number = omega (arith, numbered-length (bytesOf "refused 8 record 
 -- ---- a whole buffer
 
 module _ (room : ℕ) (text buffer : List ℕ) where
-  pub not-written : length buffer < room → (0 ≡ writtenLength room text buffer) × (buffer ≡ writtenTo room text buffer)
-  not-written h = (rw (lt-ltb (length buffer) room h), rw (lt-ltb (length buffer) room h))
+  pub not-written : length buffer < room → (0 ≡ writtenLength room text buffer) × ((buffer ≡ writtenTo room text buffer) × (0 ≤ length buffer))
+  not-written h = (rw (lt-ltb (length buffer) room h), (rw (lt-ltb (length buffer) room h), omega arith))
 
   pub written : (after : List ℕ) (next : ℕ) → room ≤ length buffer → length text ≤ room → Put buffer 0 text after next
-      → (next ≡ writtenLength room text buffer) × (after ≡ writtenTo room text buffer)
+      → (next ≡ writtenLength room text buffer) × ((after ≡ writtenTo room text buffer) × (next ≤ length buffer))
   written after next h l put =
       let z : 0 + length text ≡ length text = zero-add (length text) in (
         rw (le-ltb (length buffer) room h) (put .behind ∙ z),
-        rw (le-ltb (length buffer) room h) (put .bytes ∙ sets-eq text buffer 0 (omega arith) ∙ ap (λ (n : ℕ). text ++ drop n buffer) z),
+        (
+          rw (le-ltb (length buffer) room h) (put .bytes ∙ sets-eq text buffer 0 (omega arith) ∙ ap (λ (n : ℕ). text ++ drop n buffer) z),
+          omega (arith, put .behind),
+        ),
       )

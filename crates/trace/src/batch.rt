@@ -5,7 +5,8 @@ use crate::reader;
 use crate::writer;
 use hart::Decoded;
 ghost use mathlib.Core.Path.{_≡_};
-ghost use Prim.Native.Nat.{min};
+ghost use Prim.Native.Nat.{_≤_, min};
+ghost use lib.ListN.{length};
 ghost use Rattle.trace.specs.Buffers.{atFront};
 ghost use Rattle.trace.specs.Batches.{batched, batchLines};
 
@@ -19,6 +20,7 @@ fn least(a: usize, b: usize) -> usize
 pub fn batch(input: &[u8], out: &mut [u8], start: Replay) -> Written
     ensures { λ r. ⌜ r ≡ batched (now (input .entry)) (now (out .entry)) start ⌝ }
     ensures { λ _. ⌜ now (out .exit) ≡ atFront (batchLines (now (input .entry)) (now (out .entry)) start) (now (out .entry)) ⌝ }
+    ensures { λ r. ⌜ r .filled ≤ length (now (out .entry)) ⌝ }
 {
     if start.stopped {
         return Written {

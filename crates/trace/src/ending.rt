@@ -82,6 +82,7 @@ pub fn left_over(stopped: bool, came: usize) -> usize
 pub fn write_ending(replay: Replay, left: u64, out: &mut [u8]) -> usize
     ensures { λ r. ⌜ r ≡ writtenLength 4096 (ending replay left) (now (out .entry)) ⌝ }
     ensures { λ _. ⌜ now (out .exit) ≡ writtenTo 4096 (ending replay left) (now (out .entry)) ⌝ }
+    ensures { λ r. ⌜ r ≤ length (now (out .entry)) ⌝ }
 {
     if out.len() < 4096 {
         return 0;

@@ -138,6 +138,7 @@ pub(crate) fn put_broken(number: u64, out: &mut [u8], place: usize) -> usize
 pub fn write_answer(answer: Answer, out: &mut [u8]) -> usize
     ensures { λ r. ⌜ r ≡ writtenLength 64 (answerLine answer) (now (out .entry)) ⌝ }
     ensures { λ _. ⌜ now (out .exit) ≡ writtenTo 64 (answerLine answer) (now (out .entry)) ⌝ }
+    ensures { λ r. ⌜ r ≤ length (now (out .entry)) ⌝ }
 {
     if out.len() < 64 {
         return 0;
