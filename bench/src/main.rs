@@ -14,7 +14,7 @@ mod texts;
 use std::error::Error;
 use std::process::ExitCode;
 
-const DEFAULT_ROUNDS: u32 = 9;
+const DEFAULT_ROUNDS: u32 = 25;
 
 fn main() -> ExitCode {
     let arguments: Vec<String> = std::env::args().skip(1).collect();
@@ -40,7 +40,9 @@ fn lines(count: &str) -> Result<(), Box<dyn Error>> {
 }
 
 fn report(rounds: u32) -> Result<(), Box<dyn Error>> {
-    println!("Ratios: the product's time over the Rust model's, each at its best of {rounds} rounds.");
+    println!(
+        "Ratios: the product's time over the Rust model's, each at its best of {rounds} rounds."
+    );
     println!("In brackets and under Rust: nanoseconds.\n");
     report_steps(rounds)?;
     report_queries(rounds);
@@ -54,7 +56,10 @@ fn ratio(product: f64, rust: f64) -> String {
 }
 
 fn report_steps(rounds: u32) -> Result<(), Box<dyn Error>> {
-    println!("| Steps | Rust | tegrwyllt_step | tegrwyllt_run, {} steps | Hart::step |", steps::BATCH);
+    println!(
+        "| Steps | Rust | tegrwyllt_step | tegrwyllt_run, {} steps | Hart::step |",
+        steps::BATCH
+    );
     println!("|---|---|---|---|---|");
     for row in steps::rows(rounds)? {
         println!(
@@ -92,7 +97,10 @@ fn report_texts(rounds: u32) {
 }
 
 fn report_replay(rounds: u32) -> Result<(), Box<dyn Error>> {
-    println!("| Replay of {} records | Ratio | Records a second | MB/s | Peak memory, kB |", replays::RECORDS);
+    println!(
+        "| Replay of {} records | Ratio | Records a second | MB/s | Peak memory, kB |",
+        replays::RECORDS
+    );
     println!("|---|---|---|---|---|");
     let rows = replays::rows(rounds)?;
     for row in &rows {

@@ -14,10 +14,10 @@ pub struct Mix {
 }
 
 pub const MIXES: [Mix; 4] = [
-    Mix { name: "CSR steps", number: 1, count: 1_024_000, steps: CSR },
-    Mix { name: "traps and returns", number: 2, count: 1_024_000, steps: TRAPS },
-    Mix { name: "accesses, on the registers", number: 3, count: 409_600, steps: ACCESSES },
-    Mix { name: "PMP writes, map compiled", number: 4, count: 102_400, steps: PROTECTION },
+    Mix { name: "CSR steps", number: 1, count: 512_000, steps: CSR },
+    Mix { name: "traps and returns", number: 2, count: 512_000, steps: TRAPS },
+    Mix { name: "accesses, on the registers", number: 3, count: 204_800, steps: ACCESSES },
+    Mix { name: "PMP writes, map compiled", number: 4, count: 51_200, steps: PROTECTION },
 ];
 
 const WRITE: u64 = 1;

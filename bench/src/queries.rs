@@ -8,7 +8,7 @@ use reference::{Access, Mode, query};
 use crate::contest::{Work, contest, timed};
 use crate::mixes::setting;
 
-const QUESTIONS: usize = 1 << 20;
+const QUESTIONS: usize = 1 << 18;
 
 /// Nanoseconds a query.
 pub struct Row {
@@ -39,7 +39,9 @@ pub fn row(rounds: u32) -> Row {
     let asked = || black_box(&questions).iter().cycle().take(QUESTIONS);
     let by_map = || {
         asked()
-            .map(|&(mode, access, q)| query(&hart, &map, mode, access, q.address, q.size).words()[0])
+            .map(|&(mode, access, q)| {
+                query(&hart, &map, mode, access, q.address, q.size).words()[0]
+            })
             .sum::<u64>()
     };
     let by_bytes = || {
@@ -58,11 +60,8 @@ pub fn row(rounds: u32) -> Row {
             .sum::<u64>()
     };
     assert_eq!(by_map(), by_product(), "the product answers queries differently");
-    let mut contenders: [Work<'_>; 3] = [
-        Box::new(|| timed(by_map)),
-        Box::new(|| timed(by_bytes)),
-        Box::new(|| timed(by_product)),
-    ];
+    let mut contenders: [Work<'_>; 3] =
+        [Box::new(|| timed(by_map)), Box::new(|| timed(by_bytes)), Box::new(|| timed(by_product))];
     let best = contest(rounds, &mut contenders);
     let each = |place: usize| best[place].as_secs_f64() * 1e9 / QUESTIONS as f64;
     Row { map: each(0), byte_rule: each(1), product: each(2) }

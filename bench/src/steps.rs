@@ -55,7 +55,8 @@ fn row(rounds: u32, mix: &Mix) -> Result<Row, Box<dyn Error>> {
 /// All four must leave and answer the same, also where they are timed.
 fn compare(mix: &Mix) -> Result<(), Box<dyn Error>> {
     let wanted = in_place(mix, mix.count);
-    let found = [one_by_one(mix, mix.count), in_batches(mix, mix.count), by_program(mix, mix.count)];
+    let found =
+        [one_by_one(mix, mix.count), in_batches(mix, mix.count), by_program(mix, mix.count)];
     if found != [wanted; 3] {
         return Err(format!("{}: {found:?} in place of {wanted:?}", mix.name).into());
     }
@@ -108,16 +109,17 @@ fn endless(mix: &Mix) -> impl Iterator<Item = &Words> {
     black_box(&mix.steps).iter().cycle()
 }
 
-/// The checksum that the program writes, or none where it writes something else.
+/// The checksum at the end of the line that the program writes.
 fn by_program(mix: &Mix, count: u64) -> Checksum {
-    let output = Command::new(PROGRAM)
+    let line = Command::new(PROGRAM)
         .args([mix.number.to_string(), count.to_string()])
         .stderr(Stdio::inherit())
         .output()
-        .unwrap_or_else(|error| panic!("{PROGRAM}: {error}"));
-    let line = String::from_utf8_lossy(&output.stdout);
+        .unwrap_or_else(|error| panic!("{PROGRAM}: {error}"))
+        .stdout;
+    let line = String::from_utf8_lossy(&line);
     let digits = line.trim_end().rsplit(' ').next().unwrap_or_default();
-    Checksum(u64::from_str_radix(digits, 16).unwrap_or_default())
+    Checksum(u64::from_str_radix(digits, 16).unwrap_or_else(|_| panic!("{PROGRAM}: {line}")))
 }
 
 /// The lines that `step_speed` writes for all mixes, worked out by the

@@ -7,7 +7,7 @@ use reference::{HART_WORDS, MAP_WORDS, TEXT_LENGTH, capi, restore, save};
 use crate::contest::{Work, contest, timed};
 use crate::mixes::setting;
 
-const TEXTS: usize = 20_000;
+const TEXTS: usize = 10_000;
 
 /// Nanoseconds a text.
 pub struct Row {
@@ -27,10 +27,14 @@ pub fn rows(rounds: u32) -> [Row; 2] {
     let (mut left, mut left_map) = ([0; HART_WORDS], [0; MAP_WORDS]);
     let mut contenders: [Work<'_>; 4] = [
         Box::new(|| timed(|| repeat(|| save(black_box(&hart), black_box(&mut saved)).is_ok()))),
-        Box::new(|| timed(|| repeat(|| capi::save(black_box(&words), black_box(&mut also_saved)) == 0))),
+        Box::new(|| {
+            timed(|| repeat(|| capi::save(black_box(&words), black_box(&mut also_saved)) == 0))
+        }),
         Box::new(|| timed(|| repeat(|| black_box(restore(black_box(&text))).is_ok()))),
         Box::new(|| {
-            timed(|| repeat(|| capi::restore(black_box(&text), black_box(&mut left), &mut left_map) == 0))
+            timed(|| {
+                repeat(|| capi::restore(black_box(&text), black_box(&mut left), &mut left_map) == 0)
+            })
         }),
     ];
     let best = contest(rounds, &mut contenders);
