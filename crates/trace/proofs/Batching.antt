@@ -1,7 +1,7 @@
 -- The loop over the records of a batch.
 use Prim.Native.Nat.{ℕ, zero, suc, _+_, _-_, _*_, _/_, _%_, _^_, _≤_, _<_, min}
 use mathlib.Core.Path.{_≡_, refl, sym, ap, _∙_}
-use mathlib.Core.Bool.{Bool, true, false, cond}
+use mathlib.Core.Bool.{Bool, true, false, cond, not, _&&_, _||_}
 use mathlib.Core.List.{List, [], _∷_, _++_, append-nil, append-assoc}
 use native.Mathlib.Omega.{arith}
 use native.Mathlib.Nat.{zero-add}
@@ -13,7 +13,12 @@ use Rattle.hart.specs.declared.Step.{Step}
 use Rattle.hart.specs.declared.Stepped.{Stepped}
 use Rattle.hart.specs.declared.Decoded.{Decoded}
 use Rattle.hart.specs.declared.Decoded.the-variants.{Formed, Nothing}
-use Rattle.hart.specs.Steps.{stepped}
+use Rattle.hart.specs.declared.Effect.{Effect}
+use Rattle.hart.specs.Effects.{canHold, effect, isReset, mayRemap, judged}
+use Rattle.hart.specs.Steps.{withMap, handedBack, resetDone, stepped}
+use Rattle.hart.proofs.StepLaws.{stays-arm, step-taken}
+use Rattle.hart.proofs.Holds.{reset-holds, judged-holds}
+use Rattle.bits.proofs.Conjunction.{both}
 use Rattle.trace.specs.declared.Replay.{Replay}
 use Rattle.trace.specs.declared.Written.{Written}
 use Rattle.trace.specs.Records.{readStep}
@@ -160,6 +165,28 @@ module _ (input before : List ℕ) (total : ℕ) (start : Replay) (out : List �
         sym (turn .lines ∙ rw z),
         sym (turn .bytes ∙ rw z (omega arith)),
       )
+
+-- ---- a step that leaves the map
+
+or-true : (a : Bool) → (a || true) ≡ true
+or-true true = refl
+or-true false = refl
+
+module _ (h : Hart) (map : Map) (s : Step) where
+  -- of a state that a hart can hold
+  pub effect-stepped : (e : Effect) (held remaps : Bool) → e ≡ effect h s → remaps ≡ mayRemap s → (held && not remaps) ≡ true
+      → (held ≡ true → canHold h ≡ true) → handedBack map e ≡ stepped h map s
+  effect-stepped e held remaps f p t k =
+      let b = both held (not remaps) t in
+      stays-arm h map s e f remaps p (b .1) ∙ step-taken h map s (isReset s) true refl (sym (k (b .0))) (or-true (isReset s))
+
+  pub step-holds : canHold h ≡ true → canHold (stepped h map s .hart) ≡ true
+  unfolding stepped
+  step-holds k = go (isReset s)
+    where
+      go : (b : Bool) → canHold (cond b resetDone (withMap h map (judged h s)) .hart) ≡ true
+      go true = reset-holds
+      go false = judged-holds h k s
 
 -- what a batch answers and leaves in its buffer
 module _ (input before : List ℕ) where

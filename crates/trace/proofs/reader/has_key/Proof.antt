@@ -1,6 +1,6 @@
 use Rattle.trace.proofs.Reading.{key-start, key-more, key-all}
 use Rattle.trace.specs.Reader.{hasKey}
-use Rattle.lines.specs.Lines.{sameList}
+use Rattle.bits.specs.Same.{sameList}
 use lib.ListN.{length, take, drop}
 use Prim.Native.Nat.{_-_, _≤_}
 use mathlib.Core.Bool.{_&&_}
