@@ -1,6 +1,6 @@
 //! Contenders timed in turn, each at its best of several rounds.
 
-use std::time::{Duration, Instant};
+use std::time::Duration;
 
 /// Does the same work at each call and gives the time that it took.
 pub type Work<'a> = Box<dyn FnMut() -> Duration + 'a>;
@@ -15,10 +15,4 @@ pub fn contest(rounds: u32, contenders: &mut [Work<'_>]) -> Vec<Duration> {
         }
     }
     best
-}
-
-pub fn timed<T>(work: impl FnOnce() -> T) -> Duration {
-    let start = Instant::now();
-    std::hint::black_box(work());
-    start.elapsed()
 }

@@ -6,6 +6,7 @@
 mod checksum;
 mod contest;
 mod mixes;
+mod processor;
 mod queries;
 mod replays;
 mod steps;
@@ -40,10 +41,8 @@ fn lines(count: &str) -> Result<(), Box<dyn Error>> {
 }
 
 fn report(rounds: u32) -> Result<(), Box<dyn Error>> {
-    println!(
-        "Ratios: the product's time over the Rust model's, each at its best of {rounds} rounds."
-    );
-    println!("In brackets and under Rust: nanoseconds.\n");
+    println!("Ratios: the product's processor time over that of the Rust model, each the");
+    println!("least of {rounds} rounds. In brackets, and under Rust: nanoseconds.\n");
     report_steps(rounds)?;
     report_queries(rounds);
     report_texts(rounds);

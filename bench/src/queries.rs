@@ -5,8 +5,9 @@ use std::hint::black_box;
 use reference::capi::{self, Question};
 use reference::{Access, Mode, query};
 
-use crate::contest::{Work, contest, timed};
+use crate::contest::{Work, contest};
 use crate::mixes::setting;
+use crate::processor::here;
 
 const QUESTIONS: usize = 1 << 18;
 
@@ -61,7 +62,7 @@ pub fn row(rounds: u32) -> Row {
     };
     assert_eq!(by_map(), by_product(), "the product answers queries differently");
     let mut contenders: [Work<'_>; 3] =
-        [Box::new(|| timed(by_map)), Box::new(|| timed(by_bytes)), Box::new(|| timed(by_product))];
+        [Box::new(|| here(by_map)), Box::new(|| here(by_bytes)), Box::new(|| here(by_product))];
     let best = contest(rounds, &mut contenders);
     let each = |place: usize| best[place].as_secs_f64() * 1e9 / QUESTIONS as f64;
     Row { map: each(0), byte_rule: each(1), product: each(2) }

@@ -11,8 +11,9 @@ use std::time::Duration;
 use reference::random::Random;
 use reference::{Hart, Map, RECORD_LENGTH, Step, generate, step, write_record};
 
-use crate::contest::{Work, contest, timed};
+use crate::contest::{Work, contest};
 use crate::mixes::formed;
+use crate::processor::in_programs;
 
 const PRODUCT: &str = "target/bin/replay";
 const REFERENCE: &str = "bench/target/release/replay_reference";
@@ -36,8 +37,12 @@ pub fn rows(rounds: u32) -> Result<[Row; 2], Box<dyn Error>> {
     make_trace(&trace)?;
     compare(&folder.0, &trace)?;
     let mut contenders: [Work<'_>; 2] = [
-        Box::new(|| timed(|| replay(REFERENCE, &trace, Stdio::null()).expect("replayed before"))),
-        Box::new(|| timed(|| replay(PRODUCT, &trace, Stdio::null()).expect("replayed before"))),
+        Box::new(|| {
+            in_programs(|| replay(REFERENCE, &trace, Stdio::null()).expect("replayed before"))
+        }),
+        Box::new(|| {
+            in_programs(|| replay(PRODUCT, &trace, Stdio::null()).expect("replayed before"))
+        }),
     ];
     let best = contest(rounds.min(MOST_ROUNDS), &mut contenders);
     let row = |name, program, time: Duration| -> Result<Row, Box<dyn Error>> {

@@ -9,8 +9,9 @@ use std::time::Duration;
 use reference::{HART_WORDS, Hart, MAP_WORDS, Map, capi, step};
 
 use crate::checksum::Checksum;
-use crate::contest::{Work, contest, timed};
+use crate::contest::{Work, contest};
 use crate::mixes::{MIXES, Mix, Words, formed, setting};
+use crate::processor;
 
 const PROGRAM: &str = "target/bin/step_speed";
 /// Steps of one call of `tegrwyllt_run`, a multiple of a mix.
@@ -35,11 +36,11 @@ fn row(rounds: u32, mix: &Mix) -> Result<Row, Box<dyn Error>> {
     compare(mix)?;
     let short = mix.count / SHORT;
     let mut contenders: [Work<'_>; 5] = [
-        Box::new(|| timed(|| in_place(mix, mix.count))),
-        Box::new(|| timed(|| one_by_one(mix, mix.count))),
-        Box::new(|| timed(|| in_batches(mix, mix.count))),
-        Box::new(|| timed(|| by_program(mix, mix.count))),
-        Box::new(|| timed(|| by_program(mix, short))),
+        Box::new(|| processor::here(|| in_place(mix, mix.count))),
+        Box::new(|| processor::here(|| one_by_one(mix, mix.count))),
+        Box::new(|| processor::here(|| in_batches(mix, mix.count))),
+        Box::new(|| processor::in_programs(|| by_program(mix, mix.count))),
+        Box::new(|| processor::in_programs(|| by_program(mix, short))),
     ];
     let best = contest(rounds, &mut contenders);
     let each = |time: Duration, steps: u64| time.as_secs_f64() * 1e9 / steps as f64;

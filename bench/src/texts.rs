@@ -4,8 +4,9 @@ use std::hint::black_box;
 
 use reference::{HART_WORDS, MAP_WORDS, TEXT_LENGTH, capi, restore, save};
 
-use crate::contest::{Work, contest, timed};
+use crate::contest::{Work, contest};
 use crate::mixes::setting;
+use crate::processor::here;
 
 const TEXTS: usize = 10_000;
 
@@ -26,13 +27,13 @@ pub fn rows(rounds: u32) -> [Row; 2] {
     let (mut saved, mut also_saved) = ([0; TEXT_LENGTH], [0; TEXT_LENGTH]);
     let (mut left, mut left_map) = ([0; HART_WORDS], [0; MAP_WORDS]);
     let mut contenders: [Work<'_>; 4] = [
-        Box::new(|| timed(|| repeat(|| save(black_box(&hart), black_box(&mut saved)).is_ok()))),
+        Box::new(|| here(|| repeat(|| save(black_box(&hart), black_box(&mut saved)).is_ok()))),
         Box::new(|| {
-            timed(|| repeat(|| capi::save(black_box(&words), black_box(&mut also_saved)) == 0))
+            here(|| repeat(|| capi::save(black_box(&words), black_box(&mut also_saved)) == 0))
         }),
-        Box::new(|| timed(|| repeat(|| black_box(restore(black_box(&text))).is_ok()))),
+        Box::new(|| here(|| repeat(|| black_box(restore(black_box(&text))).is_ok()))),
         Box::new(|| {
-            timed(|| {
+            here(|| {
                 repeat(|| capi::restore(black_box(&text), black_box(&mut left), &mut left_map) == 0)
             })
         }),
