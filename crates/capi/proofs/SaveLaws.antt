@@ -17,7 +17,7 @@ use Rattle.hart.specs.declared.Stepped.{Stepped}
 use Rattle.hart.specs.Effects.{canHold, refused}
 use Rattle.hart.specs.Steps.{handedBack}
 use Rattle.hart.specs.Saved.{hartOf, savedAnswer, savedBuffer, restoredDone, restoredWords, restored}
-use Rattle.hart.specs.Asked.{refusalOf}
+use Rattle.hart.specs.Refusals.{refusalOf}
 use Rattle.capi.specs.MapWords.{mapOfWords, mapWords}
 use Rattle.capi.specs.Calls.{hartWords, fits, emptyMap, misfit, saveResult, savedText, readBack, restoreResult, restoredHart, restoredMap}
 use Rattle.capi.proofs.MapWords.{map-words-back}

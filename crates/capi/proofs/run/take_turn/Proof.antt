@@ -1,39 +1,58 @@
-use borrow.Author.Needs.{needs}
-use borrow.Author.Tests.{not-true, not-false}
-use mathlib.Core.Path.{sym, _∙_}
-use Rattle.capi.proofs.TurnLaws.{turn-refused, turn-stays, turn-done}
 use Rattle.capi.proofs.run.take_turn.Statement.{statement}
 use Rattle.capi.proofs.run.take_turn.Tie as tie
+use Rattle.capi.proofs.run.take_turn.Reads as reads
+use Rattle.capi.proofs.run.take_turn.Lts as lts
+use Rattle.capi.proofs.run.only_registers.Reads as only-registers-reads
+use Rattle.capi.proofs.run.step_all.Reads as step-all-reads
+use Rattle.capi.proofs.run.step_registers.Reads as step-registers-reads
+use Rattle.hart.proofs.is_reset.Reads as is-reset-reads
 
+-- src/run.rt:134:10
+is-reset-requires : tie.Need-is-reset-requires
+is-reset-requires c κs = ?
+
+-- src/run.rt:135:9
 returns : tie.Need-returns
-returns c =
-    let a = c .before .before .args in
-    turn-refused (a .hart) (a .step) (c .before .is-reset .result) (a .held) (c .before .is-reset .ensures) (c .before .before .pre) (not-true _ (c .if1 .taken))
+returns c = ?
 
+-- src/run.rt:141:8
+only-registers-requires : tie.Need-only-registers-requires
+only-registers-requires c κs = ?
+
+-- src/run.rt:142:13
+step-registers-requires : tie.Need-step-registers-requires
+step-registers-requires c κs = ?
+
+-- src/run.rt:143:9
+same-length : tie.Need-same-length
+same-length c = ?
+
+-- src/run.rt:143:9
 returns-2 : tie.Need-returns-2
-returns-2 c =
-    let e = c .before .before .before in
-    let i = e .before .before in
-    let a = i .before .args in
-    turn-stays (a .hart) (a .step) (i .is-reset .result) (a .held) (i .is-reset .ensures) (i .before .pre) (e .effect .result) (e .effect .ensures)
-    (not-false _ (e .before .if1 .left)) (sym (c .before .may-remap .ensures) ∙ not-true _ (c .if2 .taken))
+returns-2 c = ?
 
+-- src/run.rt:149:5
+step-all-requires : tie.Need-step-all-requires
+step-all-requires c κs = ?
+
+-- src/run.rt:129:1
+same-length-2 : tie.Need-same-length-2
+same-length-2 c = ?
+
+-- src/run.rt:129:1
 returns-3 : tie.Need-returns-3
-returns-3 c =
-    let e = c .before .before .before .before .before .before in
-    let i = e .before .before in
-    let a = i .before .args in
-    turn-done (a .hart) (a .step) (i .is-reset .result) (a .held) (i .is-reset .ensures) (i .before .pre) (e .effect .result) (e .effect .ensures)
-    (not-false _ (e .before .if1 .left)) (c .same-pmp .result) (c .same-pmp .ensures)
+returns-3 c = ?
 
 pub take-turn-spec : {M : Type 1} → statement M
 take-turn-spec =
     tie.close
     (tie.spec
-    (λ c κs. search needs)
+    is-reset-requires
     returns
-    (λ c κs. search needs)
-    (λ c κs. search needs)
+    only-registers-requires
+    step-registers-requires
+    same-length
     returns-2
-    (λ c κs. search needs)
+    step-all-requires
+    same-length-2
     returns-3)
