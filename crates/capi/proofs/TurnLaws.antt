@@ -114,18 +114,20 @@ module _ (w : List ℕ) (s : Step) (fit : length w ≡ 41) {h : Hart} {e : Effec
   -- the words of protection were not written
   pub all-stays : mayRemap s ≡ false → {x : List ℕ} → x ≡ sets w 0 (registerWords (e .hart .registers))
       → (record { answer = e .answer; held = true; remap = false } ≡ stepTurn (hartOf w) s) × (hartOf x ≡ effect (hartOf w) s .hart)
-  all-stays m ex =
-      (ap (λ (y : Effect). record { answer = y .answer; held = true; remap = false }) effect-is ∙ turn-stays (hartOf w) s m,
-      ap hartOf ex ∙ registers-put (e .hart .registers) w fit
-      ∙ (λ j. record { registers = effect-is j .hart .registers; pmp = pmp-unchanged (hartOf w) s m j }))
+  all-stays m ex = (
+    ap (λ (y : Effect). record { answer = y .answer; held = true; remap = false }) effect-is ∙ turn-stays (hartOf w) s m,
+    ap hartOf ex ∙ registers-put (e .hart .registers) w fit
+        ∙ (λ j. record { registers = effect-is j .hart .registers; pmp = pmp-unchanged (hartOf w) s m j }),
+  )
 
   -- all words were written
   pub all-written : (reset same : Bool) → reset ≡ isReset s → same ≡ samePmp (h .pmp) (e .hart .pmp) → Arrays (e .hart .pmp)
       → {x : List ℕ} → x ≡ hartWords (e .hart)
       → (record { answer = e .answer; held = true; remap = reset || not same } ≡ stepTurn (hartOf w) s) × (hartOf x ≡ effect (hartOf w) s .hart)
-  all-written reset same p q t {x} ex =
-      ((λ j. record { answer = effect-is j .answer; held = true; remap = p j || not ((q ∙ λ i. samePmp (eh i .pmp) (effect-is i .hart .pmp)) j) }),
-      words-of-hart (e .hart) x t ex ∙ ap (λ (y : Effect). y .hart) effect-is)
+  all-written reset same p q t {x} ex = (
+    (λ j. record { answer = effect-is j .answer; held = true; remap = p j || not ((q ∙ λ i. samePmp (eh i .pmp) (effect-is i .hart .pmp)) j) }),
+    words-of-hart (e .hart) x t ex ∙ ap (λ (y : Effect). y .hart) effect-is,
+  )
 
 -- ---- the map
 

@@ -83,7 +83,10 @@ fn step_registers(words: &mut [u64], step: Step) -> Answer
         Step::Lines(lines) => settle(trap::time::lines_step(registers, lines), words),
         Step::TakeInterrupt => settle(trap::interrupt::take_interrupt(registers), words),
         Step::Mret => settle(trap::returns::return_from(Level::Machine, registers), words),
-        Step::Sret => settle(trap::returns::return_from(Level::Supervisor, registers), words),
+        Step::Sret => settle(
+            trap::returns::return_from(Level::Supervisor, registers),
+            words,
+        ),
         Step::Wfi => settle(trap::returns::wait(registers), words),
         Step::Ecall => settle(trap::enter::environment_call(registers), words),
         Step::Ebreak => settle(trap::enter::breakpoint(registers), words),

@@ -1,36 +1,24 @@
+use borrow.Author.Needs.{needs}
+use mathlib.Core.Path.{_≡_, ap, _∙_}
+use mathlib.Core.Bool.{true, false}
+use borrow.Author.Tests.{not-true, not-false}
+use Rattle.registers.specs.declared.Pmp.{Pmp}
+use Rattle.hart.specs.Steps.{mapFor}
+use Rattle.capi.specs.MapWords.{mapWords}
 use Rattle.capi.proofs.run.renew.Statement.{statement}
 use Rattle.capi.proofs.run.renew.Tie as tie
-use Rattle.capi.proofs.run.renew.Reads as reads
-use Rattle.capi.proofs.run.renew.Lts as lts
-use Rattle.capi.proofs.slices.pmp_at.Reads as pmp-at-reads
-use Rattle.capi.proofs.slices.store_map.Reads as store-map-reads
-use Rattle.map.proofs.compile.Reads as compile-reads
 
--- src/run.rt:211:9
 returns : tie.Need-returns
-returns c = ?
+returns c = let e : c .before .before .before .args .remap ≡ false = not-true _ (c .if1 .taken) in rw e
 
--- src/run.rt:213:9
-pmp-at-requires : tie.Need-pmp-at-requires
-pmp-at-requires c κs = ?
-
--- src/run.rt:216:15
-compile-requires : tie.Need-compile-requires
-compile-requires c κs = ?
-
--- src/run.rt:216:5
-store-map-requires : tie.Need-store-map-requires
-store-map-requires c κs = ?
-
--- src/run.rt:206:1
-same-length : tie.Need-same-length
-same-length c = ?
-
--- src/run.rt:206:1
 returns-2 : tie.Need-returns-2
-returns-2 c = ?
+returns-2 c =
+    let s = c .before .before in
+    let m = s .before .before in
+    let p = m .before .before .before in
+    let i = p .before in
+    let e : i .before .before .before .args .remap ≡ true = not-false _ (i .if1 .left) in
+    rw e (s .store-map .ensures ∙ ap mapWords (m .compile .ensures ∙ ap (λ (x : Pmp). mapFor x) (p .pmp-at .ensures)))
 
 pub renew-spec : {M : Type 1} → statement M
-renew-spec =
-    tie.close
-    (tie.spec returns pmp-at-requires compile-requires store-map-requires same-length returns-2)
+renew-spec = tie.close (tie.spec returns (λ c κs. search needs) (λ c κs. search needs) (λ c κs. search needs) (λ c. search needs) returns-2)

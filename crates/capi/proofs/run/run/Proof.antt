@@ -1,35 +1,35 @@
+-- `capi::run::run` meets its contract. Assumes nothing.
+use borrow.Author.Needs.{needs}
+use native.Mathlib.Omega.{arith}
+use lib.ListN.{length}
+use Rattle.hart.specs.Decode.{stepsOf}
+use Rattle.capi.proofs.TurnLaws.{ran-hart, ran-map, ran-answers}
 use Rattle.capi.proofs.run.run.Statement.{statement}
 use Rattle.capi.proofs.run.run.Tie as tie
-use Rattle.capi.proofs.run.run.Reads as reads
-use Rattle.capi.proofs.run.run.Lts as lts
-use Rattle.capi.proofs.run.renew.Reads as renew-reads
-use Rattle.capi.proofs.run.run_steps.Reads as run-steps-reads
 
--- src/run.rt:226:9
-run-steps-requires : tie.Need-run-steps-requires
-run-steps-requires c κs = ?
-
--- src/run.rt:227:5
-renew-requires : tie.Need-renew-requires
-renew-requires c κs = ?
-
--- src/run.rt:220:1
-same-length : tie.Need-same-length
-same-length c = ?
-
--- src/run.rt:220:1
-same-length-2 : tie.Need-same-length-2
-same-length-2 c = ?
-
--- src/run.rt:220:1
-same-length-3 : tie.Need-same-length-3
-same-length-3 c = ?
-
--- src/run.rt:220:1
 returns : tie.Need-returns
-returns c = ?
+returns c =
+    let n = c .before .before in
+    let k = n .before .before .before .before .before in
+    let r = k .before .before in
+    let start = r .before .before .before .before .before .before .before in
+    let a = start .args in
+    let steps = stepsOf (a .steps .now) in
+    let e = r .run-steps .ensures .1 .0 in (
+      ran-hart (a .hart .now) (a .map .now) steps (start .pre .1) (record { count = search needs; below = λ i. omega (arith, k .slice-known4 .given i) }) e,
+      (
+        ran-map (a .hart .now) (a .map .now) steps (start .pre .1) _ (r .run-steps .ensures .0) e (n .renew .ensures),
+        ran-answers (a .hart .now) (a .map .now) steps (start .pre .1) (r .run-steps .ensures .1 .1),
+      ),
+    )
 
 pub run-spec : {M : Type 1} → statement M
 run-spec =
     tie.close
-    (tie.spec run-steps-requires renew-requires same-length same-length-2 same-length-3 returns)
+    (tie.spec
+    (λ c κs. search needs)
+    (λ c κs. search needs)
+    (λ c. search needs)
+    (λ c. search needs)
+    (λ c. search needs)
+    returns)
