@@ -21,7 +21,7 @@ use Rattle.hart.specs.Runs.{afterAll}
 use Rattle.capi.specs.declared.run.Turn.{Turn}
 use Rattle.capi.specs.Answers.{answerWords}
 use Rattle.capi.specs.Calls.{nameSteps}
-use Rattle.capi.specs.Turns.{answerInterrupt, remaps, turned, turnedBy, anyRemaps, answersOf}
+use Rattle.capi.specs.Turns.{answerInterrupt, remaps, turned, turnedBy, hartBy, anyRemaps, answersOf}
 use Rattle.capi.proofs.Exceptions.{judged-plain}
 use Rattle.capi.proofs.SliceLaws.{three-written}
 
@@ -145,32 +145,35 @@ assoc-or : (a b c : Bool) → ((a || b) || c) ≡ (a || (b || c))
 assoc-or true b c = refl
 assoc-or false b c = refl
 
-module _ (l : List ℕ) (i : ℕ) (h : Hart) (t : Turn) (n : Named l i)
-    (e : t ≡ turnedBy h (decoded (getD l i 0) (getD l (i + 1) 0) (getD l (i + 2) 0))) where
+module _ (l : List ℕ) (i : ℕ) (h g : Hart) (t : Turn) (n : Named l i)
+    (e : t ≡ turnedBy h (decoded (getD l i 0) (getD l (i + 1) 0) (getD l (i + 2) 0)))
+    (f : g ≡ hartBy h (decoded (getD l i 0) (getD l (i + 1) 0) (getD l (i + 2) 0))) where
   turn-is : t ≡ turned h (n .step)
   turn-is = e ∙ ap (turnedBy h) (n .formed)
 
-  pub held-next : t .held ≡ canHold (t .hart)
-  held-next = rw turn-is
+  hart-is : g ≡ judged h (n .step) .hart
+  hart-is = f ∙ ap (hartBy h) (n .formed)
 
-  pub hart-next : afterAll (t .hart) (stepsOf (drop (i + 3) l)) ≡ afterAll h (stepsOf (drop i l))
+  pub held-next : t .held ≡ canHold g
+  held-next = rw (turn-is, hart-is)
+
+  pub hart-next : afterAll g (stepsOf (drop (i + 3) l)) ≡ afterAll h (stepsOf (drop i l))
   unfolding afterAll
-  hart-next = rw (turn-is, n .steps)
+  hart-next = rw (hart-is, n .steps)
 
-  pub remap-next : (r : Bool)
-      → ((r || t .remap) || anyRemaps (t .hart) (stepsOf (drop (i + 3) l))) ≡ (r || anyRemaps h (stepsOf (drop i l)))
+  pub remap-next : (r : Bool) → ((r || t .remap) || anyRemaps g (stepsOf (drop (i + 3) l))) ≡ (r || anyRemaps h (stepsOf (drop i l)))
   unfolding anyRemaps
   remap-next r =
-      rw (turn-is, n .steps)
+      rw (turn-is, hart-is, n .steps)
       (assoc-or r (remaps h (n .step)) (anyRemaps (judged h (n .step) .hart) (stepsOf (drop (i + 3) l))))
 
   pub answers-next : (ans ws : List ℕ) → length ans ≡ length l → ws ≡ answerWords (t .answer)
-      → take (i + 3) (set (set (set ans i (getD ws 0 0)) (i + 1) (getD ws 1 0)) (i + 2) (getD ws 2 0)) ++ answersOf (t .hart) (stepsOf (drop (i + 3) l))
+      → take (i + 3) (set (set (set ans i (getD ws 0 0)) (i + 1) (getD ws 1 0)) (i + 2) (getD ws 2 0)) ++ answersOf g (stepsOf (drop (i + 3) l))
       ≡ take i ans ++ answersOf h (stepsOf (drop i l))
   unfolding answersOf
   answers-next ans ws p q =
       let room : i + 3 ≤ length ans = omega (arith, n .room) in
-      rw (three-written ans i (getD ws 0 0) (getD ws 1 0) (getD ws 2 0) room, append-assoc, q, turn-is, n .steps)
+      rw (three-written ans i (getD ws 0 0) (getD ws 1 0) (getD ws 2 0) room, append-assoc, q, turn-is, hart-is, n .steps)
       (ap (λ (x : List ℕ). take i ans ++ (x ++ answersOf (judged h (n .step) .hart) (stepsOf (drop (i + 3) l)))) (three-words (judged h (n .step) .answer)))
 
 -- ---- the end of the run

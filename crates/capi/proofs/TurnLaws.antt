@@ -1,40 +1,48 @@
 -- One step without its map, and many: they leave what the definitions over maps say. Assumes nothing.
 use Prim.Native.Nat.{ℕ}
 use mathlib.Core.Path.{_≡_, refl, sym, ap, _∙_}
-use mathlib.Core.Bool.{Bool, true, false, cond, not, _||_, true≢false}
+use mathlib.Core.Bool.{Bool, true, false, cond, not, _||_, true≢false, false≢true}
 use mathlib.Core.List.{List, [], _∷_, _++_}
 use lib.ListN.{length}
+use lib.Seq.{sets}
 use borrow.Author.Tests.{not-true, not-false}
 use Rattle.bits.proofs.Conjunction.{neither}
+use Rattle.registers.specs.declared.Registers.{Registers}
 use Rattle.registers.specs.declared.Pmp.{Pmp}
 use Rattle.registers.specs.Same.{samePmp}
 use Rattle.registers.proofs.SameLaws.{same-pmp, same-pmp-refl}
 use Rattle.map.specs.declared.Map.{Map}
+use Rattle.lines.proofs.Back.{Words}
+use Rattle.words.specs.Arrays.{Arrays}
+use Rattle.words.specs.Words.{registersOf}
+use Rattle.words.proofs.Back.{words-back}
+use Rattle.trap.specs.declared.Answer.{Answer}
 use Rattle.trap.specs.declared.Answer.the-variants.{Refused}
+use Rattle.trap.specs.declared.Outcome.{Outcome}
 use Rattle.hart.specs.declared.Hart.{Hart}
 use Rattle.hart.specs.declared.Mapped.{Mapped}
 use Rattle.hart.specs.declared.Step.{Step}
-use Rattle.hart.specs.declared.Step.the-variants.{Reset}
+use Rattle.hart.specs.declared.Step.the-variants.{Reset, Csr, Raise, Lines, TakeInterrupt, Mret, Sret, Wfi, Ecall, Ebreak, Advance, Access as AccessStep, Elapsed}
 use Rattle.hart.specs.declared.Stepped.{Stepped}
 use Rattle.hart.specs.declared.Effect.{Effect}
-use Rattle.hart.specs.Effects.{canHold, refused, effect, isReset, mayRemap, judged}
+use Rattle.hart.specs.Effects.{canHold, refused, onRegisters, effect, isReset, mayRemap, judged}
 use Rattle.hart.specs.Steps.{mapFor, stepped}
 use Rattle.hart.specs.Saved.{hartOf}
 use Rattle.hart.specs.Runs.{afterAll, leftBy}
 use Rattle.hart.proofs.StepLaws.{only-reset, pmp-unchanged}
 use Rattle.hart.proofs.Holds.{reset-holds, effect-holds}
 use Rattle.capi.specs.declared.run.Turn.{Turn}
-use Rattle.capi.specs.declared.run.Ran.{Ran}
 use Rattle.capi.specs.MapWords.{mapOfWords, mapWords}
 use Rattle.capi.specs.Answers.{answerWords}
-use Rattle.capi.specs.Calls.{hartWords, answersBy, ran}
-use Rattle.capi.specs.Turns.{remaps, turned, anyRemaps, answersOf, ranBy}
+use Rattle.capi.specs.Calls.{hartWords, registerWords, answersBy, ran}
+use Rattle.capi.specs.Turns.{remaps, turned, stepTurn, withRegisters, onlyRegisters, anyRemaps, answersOf}
 use Rattle.capi.proofs.MapWords.{map-words-back}
+use Rattle.capi.proofs.SliceLaws.{registers-put, words-of-hart}
 
 -- ---- one step
 
 module _ (h : Hart) (s : Step) (reset held : Bool) (p : reset ≡ isReset s) (q : held ≡ canHold h) where
-  taken : (reset || held) ≡ true → judged h s ≡ effect h s
+  pub taken : (reset || held) ≡ true → judged h s ≡ effect h s
   unfolding judged
   taken t = rw (← p, ← q, t)
 
@@ -43,10 +51,13 @@ module _ (h : Hart) (s : Step) (reset held : Bool) (p : reset ≡ isReset s) (q 
   passed t = rw (← p, ← q, t)
 
   -- a state that cannot be held is refused, and stays
-  pub turn-refused : (reset || held) ≡ false → record { hart = h; answer = Refused 3; held = false; remap = false } ≡ turned h s
+  pub turn-refused : (reset || held) ≡ false → record { answer = Refused 3; held = false; remap = false } ≡ turned h s
   turn-refused t =
       let n = neither reset held t in
       rw (passed t, ← q, n .1, ← p, n .0, same-pmp-refl (h .pmp))
+
+  pub hart-refused : (reset || held) ≡ false → h ≡ judged h s .hart
+  hart-refused t = rw (passed t)
 
   -- every other state can be held after the step
   kept : (reset || held) ≡ true → canHold (effect h s .hart) ≡ true
@@ -56,21 +67,67 @@ module _ (h : Hart) (s : Step) (reset held : Bool) (p : reset ≡ isReset s) (q 
       go true e u = rw (only-reset s (sym e)) reset-holds
       go false e u = effect-holds h (sym q ∙ u) s
 
-  not-reset : mayRemap s ≡ false → isReset s ≡ false
-  not-reset m = go (isReset s) refl
-    where
-      go : (b : Bool) → isReset s ≡ b → b ≡ false
-      go true e = absurd (true≢false (ap mayRemap (sym (only-reset s e)) ∙ m))
-      go false e = refl
+  pub turn-taken : (reset || held) ≡ true → stepTurn h s ≡ turned h s
+  turn-taken t = rw (taken t, kept t)
 
-  module _ (e : Effect) (f : e ≡ effect h s) (t : (reset || held) ≡ true) where
-    pub turn-stays : mayRemap s ≡ false
-        → record { hart = e .hart; answer = e .answer; held = true; remap = false } ≡ turned h s
-    turn-stays m = rw (f, taken t, kept t, not-reset m, ← pmp-unchanged h s m, same-pmp-refl (h .pmp))
+-- a step that may not remap does not ask for a fresh map
+pub turn-stays : (h : Hart) (s : Step) → mayRemap s ≡ false → record { answer = effect h s .answer; held = true; remap = false } ≡ stepTurn h s
+turn-stays h s m = rw (not-reset m, ← pmp-unchanged h s m, same-pmp-refl (h .pmp))
+  where
+    not-reset : mayRemap s ≡ false → isReset s ≡ false
+    not-reset n = go (isReset s) refl
+      where
+        go : (b : Bool) → isReset s ≡ b → b ≡ false
+        go true e = absurd (true≢false (ap mayRemap (sym (only-reset s e)) ∙ n))
+        go false e = refl
 
-    pub turn-done : (b : Bool) → b ≡ samePmp (h .pmp) (e .hart .pmp)
-        → record { hart = e .hart; answer = e .answer; held = true; remap = reset || not b } ≡ turned h s
-    turn-done b g = rw (g, f, taken t, kept t, ← p)
+-- a step on the registers alone may not remap
+pub registers-stay : (s : Step) → onlyRegisters s ≡ true → mayRemap s ≡ false
+registers-stay Reset e = sym e
+registers-stay (Csr op number operand) e = absurd (false≢true e)
+registers-stay (Raise cause tval) e = refl
+registers-stay (Lines lines) e = refl
+registers-stay TakeInterrupt e = refl
+registers-stay Mret e = refl
+registers-stay Sret e = refl
+registers-stay Wfi e = refl
+registers-stay Ecall e = refl
+registers-stay Ebreak e = refl
+registers-stay (Advance target) e = refl
+registers-stay (AccessStep access address size) e = refl
+registers-stay (Elapsed cycles retired) e = refl
+
+-- ---- a step on words
+
+-- a step on the registers alone, from what its callees gave
+pub settled : (f : Registers → Outcome) (w : List ℕ) {s t : Step} {r : Registers} {o : Outcome} {a : Answer} {x : Hart} → s ≡ t
+    → effect (hartOf w) t ≡ onRegisters (hartOf w) (f (registersOf w)) → r ≡ registersOf w → o ≡ f r → a ≡ o .answer
+    → x ≡ withRegisters (hartOf w) (o .registers) → (a ≡ effect (hartOf w) s .answer) × (x ≡ effect (hartOf w) s .hart)
+settled f w es ee er eo ea ex =
+    let k = sym (ap (effect (hartOf w)) es ∙ ee ∙ ap (onRegisters (hartOf w)) (sym (eo ∙ ap f er))) in
+    (ea ∙ ap (λ (y : Effect). y .answer) k, ex ∙ ap (λ (y : Effect). y .hart) k)
+
+module _ (w : List ℕ) (s : Step) (fit : length w ≡ 41) {h : Hart} {e : Effect} (eh : h ≡ hartOf w) (ee : e ≡ effect h s) where
+  effect-is : e ≡ effect (hartOf w) s
+  effect-is = ee ∙ ap (λ (x : Hart). effect x s) eh
+
+  -- the words of protection were not written
+  pub all-stays : mayRemap s ≡ false → {x : List ℕ} → x ≡ sets w 0 (registerWords (e .hart .registers))
+      → (record { answer = e .answer; held = true; remap = false } ≡ stepTurn (hartOf w) s) × (hartOf x ≡ effect (hartOf w) s .hart)
+  all-stays m ex = (
+    ap (λ (y : Effect). record { answer = y .answer; held = true; remap = false }) effect-is ∙ turn-stays (hartOf w) s m,
+    ap hartOf ex ∙ registers-put (e .hart .registers) w fit
+        ∙ (λ j. record { registers = effect-is j .hart .registers; pmp = pmp-unchanged (hartOf w) s m j }),
+  )
+
+  -- all words were written
+  pub all-written : (reset same : Bool) → reset ≡ isReset s → same ≡ samePmp (h .pmp) (e .hart .pmp) → Arrays (e .hart .pmp)
+      → {x : List ℕ} → x ≡ hartWords (e .hart)
+      → (record { answer = e .answer; held = true; remap = reset || not same } ≡ stepTurn (hartOf w) s) × (hartOf x ≡ effect (hartOf w) s .hart)
+  all-written reset same p q t {x} ex = (
+    (λ j. record { answer = effect-is j .answer; held = true; remap = p j || not ((q ∙ λ i. samePmp (eh i .pmp) (effect-is i .hart .pmp)) j) }),
+    words-of-hart (e .hart) x t ex ∙ ap (λ (y : Effect). y .hart) effect-is,
+  )
 
 -- ---- the map
 
@@ -150,22 +207,21 @@ answers-are (s ∷ steps) h map =
 
 -- ---- what a run leaves in the slices
 
-module _ (hart map : List ℕ) (steps : List Step) (fit : length map ≡ 100) {h : Hart} {r : Ran} (e : h ≡ hartOf hart) (f : r ≡ ranBy h steps) where
-  ends : r ≡ ranBy (hartOf hart) steps
-  ends = f ∙ ap (λ (x : Hart). ranBy x steps) e
-
-  pub ran-hart : {x : List ℕ} → x ≡ hartWords (r .hart) → x ≡ ran (hartOf hart) (mapOfWords map) steps .hart
-  ran-hart p = p ∙ ap (λ (y : Ran). hartWords (y .hart)) ends ∙ ap (λ (l : Mapped). hartWords (l .hart)) (sym (left-is steps (hartOf hart) (mapOfWords map)))
+module _ (hart map : List ℕ) (steps : List Step) (fit : length map ≡ 100) where
+  pub ran-hart : {x : List ℕ} → Words 41 x → hartOf x ≡ afterAll (hartOf hart) steps → x ≡ ran (hartOf hart) (mapOfWords map) steps .hart
+  ran-hart {x} w p =
+      sym (words-back x w) ∙ ap hartWords p ∙ ap (λ (l : Mapped). hartWords (l .hart)) (sym (left-is steps (hartOf hart) (mapOfWords map)))
 
   chosen : (b : Bool) (m : Map) → cond b (mapWords m) map ≡ mapWords (cond b m (mapOfWords map))
   chosen true m = refl
   chosen false m = sym (map-words-back map fit)
 
-  pub ran-map : {x : List ℕ} → x ≡ cond (r .remap) (mapWords (mapFor (r .hart .pmp))) map → x ≡ ran (hartOf hart) (mapOfWords map) steps .map
-  ran-map p =
-      p ∙ ap (λ (y : Ran). cond (y .remap) (mapWords (mapFor (y .hart .pmp))) map) ends
+  pub ran-map : {x : List ℕ} (y : List ℕ) {r : Bool} → r ≡ anyRemaps (hartOf hart) steps → hartOf y ≡ afterAll (hartOf hart) steps
+      → x ≡ cond r (mapWords (mapFor (hartOf y .pmp))) map → x ≡ ran (hartOf hart) (mapOfWords map) steps .map
+  ran-map y e f p =
+      p ∙ (λ j. cond (e j) (mapWords (mapFor (f j .pmp))) map)
       ∙ chosen (anyRemaps (hartOf hart) steps) (mapFor (afterAll (hartOf hart) steps .pmp))
       ∙ ap (λ (l : Mapped). mapWords (l .map)) (sym (left-is steps (hartOf hart) (mapOfWords map)))
 
-  pub ran-answers : {x : List ℕ} → x ≡ answersOf h steps → x ≡ ran (hartOf hart) (mapOfWords map) steps .answers
-  ran-answers p = p ∙ ap (λ (y : Hart). answersOf y steps) e ∙ sym (answers-are steps (hartOf hart) (mapOfWords map))
+  pub ran-answers : {x : List ℕ} → x ≡ answersOf (hartOf hart) steps → x ≡ ran (hartOf hart) (mapOfWords map) steps .answers
+  ran-answers p = p ∙ sym (answers-are steps (hartOf hart) (mapOfWords map))

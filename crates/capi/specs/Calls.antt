@@ -3,16 +3,17 @@ use Prim.Native.Nat.{ℕ, _-_, _^_}
 use mathlib.Core.Bool.{Bool, true, false, cond, _&&_}
 use mathlib.Core.List.{List, [], _∷_, _++_}
 use lib.Dec.{eqb, leb}
-use lib.ListN.{length, replicate}
+use lib.ListN.{length, take, replicate}
 use Rattle.pmp.specs.declared.Access.{Access}
 use Rattle.pmp.specs.declared.Access.the-variants.{Fetch, Load, Store}
+use Rattle.registers.specs.declared.Registers.{Registers}
 use Rattle.registers.specs.Hold.{isMode}
 use Rattle.registers.specs.Effective.{modeOf}
 use Rattle.map.specs.declared.Map.{Map}
 use Rattle.map.specs.declared.Found.{Found}
 use Rattle.map.specs.declared.Found.the-variants.{At}
 use Rattle.map.specs.Ranges.{range}
-use Rattle.words.specs.Words.{wordsOf}
+use Rattle.words.specs.Words.{wordsWith, wordsOf}
 use Rattle.hart.specs.declared.Hart.{Hart}
 use Rattle.hart.specs.declared.Step.{Step}
 use Rattle.hart.specs.declared.Stepped.{Stepped}
@@ -30,6 +31,10 @@ use Rattle.capi.specs.Answers.{answerWords, decisionWords}
 -- a hart as 41 words in the order of the saved text
 abbrev pub hartWords : Hart → List ℕ
 hartWords h = wordsOf (h .registers) (h .pmp)
+
+-- its first 23 words: all but those of protection
+abbrev pub registerWords : Registers → List ℕ
+registerWords r = take 23 (wordsWith r 0 0 [])
 
 -- a hart's slice has 41 words and a map's 100
 abbrev pub fits : List ℕ → List ℕ → Bool

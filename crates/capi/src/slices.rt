@@ -1,15 +1,22 @@
-// Harts and maps in slices of words.
+// Harts and maps in slices of words. A hart is read and written where it lies: by way of an array of 41 words each step would copy it whole.
 use hart::Hart;
 use map::Found;
 use map::Map;
 use map::Range;
+use registers::Counters;
+use registers::Interrupts;
+use registers::LevelRegisters;
+use registers::Pmp;
+use registers::Registers;
 ghost use mathlib.Core.Path.{_≡_};
 ghost use Prim.Native.Nat.{min};
 ghost use lib.ListN.{length};
+ghost use lib.Seq.{sets};
 ghost use Rattle.map.specs.Lookup.{findRange, rangesIn};
+ghost use Rattle.words.specs.Words.{registersOf, pmpOf};
 ghost use Rattle.hart.specs.Saved.{hartOf};
 ghost use Rattle.capi.specs.MapWords.{mapOfWords, mapWords};
-ghost use Rattle.capi.specs.Calls.{hartWords};
+ghost use Rattle.capi.specs.Calls.{hartWords, registerWords};
 
 // Copies words from one slice to another of the same length.
 pub(crate) fn copy(from: &[u64], to: &mut [u64])
@@ -23,15 +30,118 @@ pub(crate) fn copy(from: &[u64], to: &mut [u64])
     }
 }
 
+// The registers of 41 words but those of protection, read from where they lie.
+pub(crate) fn registers_at(words: &[u64]) -> Registers
+    requires { ⌜ length (now words) ≡ 41 ⌝ }
+    ensures { λ r. ⌜ r ≡ registersOf (now (words .entry)) ⌝ }
+{
+    let interrupts = Interrupts {
+        mideleg: words[4],
+        mie: words[5],
+        mip: words[6],
+        lines: words[7],
+    };
+    let counters = Counters {
+        mcountinhibit: words[10],
+        mcycle: words[21],
+        minstret: words[22],
+    };
+    let machine = LevelRegisters {
+        tvec: words[8],
+        counteren: words[9],
+        scratch: words[11],
+        epc: words[12],
+        cause: words[13],
+        tval: words[14],
+    };
+    let supervisor = LevelRegisters {
+        tvec: words[15],
+        counteren: words[16],
+        scratch: words[17],
+        epc: words[18],
+        cause: words[19],
+        tval: words[20],
+    };
+    Registers {
+        mode: words[0],
+        pc: words[1],
+        mstatus: words[2],
+        medeleg: words[3],
+        interrupts,
+        counters,
+        machine,
+        supervisor,
+    }
+}
+
+// Writes the registers but those of protection to the first 23 of 41 words.
+pub(crate) fn put_registers(registers: Registers, words: &mut [u64])
+    requires { ⌜ length (now words) ≡ 41 ⌝ }
+    ensures { λ _. ⌜ now (words .exit) ≡ sets (now (words .entry)) 0 (registerWords registers) ⌝ }
+{
+    let interrupts = registers.interrupts;
+    let counters = registers.counters;
+    let machine = registers.machine;
+    let supervisor = registers.supervisor;
+    words[0] = registers.mode;
+    words[1] = registers.pc;
+    words[2] = registers.mstatus;
+    words[3] = registers.medeleg;
+    words[4] = interrupts.mideleg;
+    words[5] = interrupts.mie;
+    words[6] = interrupts.mip;
+    words[7] = interrupts.lines;
+    words[8] = machine.tvec;
+    words[9] = machine.counteren;
+    words[10] = counters.mcountinhibit;
+    words[11] = machine.scratch;
+    words[12] = machine.epc;
+    words[13] = machine.cause;
+    words[14] = machine.tval;
+    words[15] = supervisor.tvec;
+    words[16] = supervisor.counteren;
+    words[17] = supervisor.scratch;
+    words[18] = supervisor.epc;
+    words[19] = supervisor.cause;
+    words[20] = supervisor.tval;
+    words[21] = counters.mcycle;
+    words[22] = counters.minstret;
+}
+
+// The protection registers of 41 words.
+pub(crate) fn pmp_at(words: &[u64]) -> Pmp
+    requires { ⌜ length (now words) ≡ 41 ⌝ }
+    ensures { λ r. ⌜ r ≡ pmpOf (now (words .entry)) ⌝ }
+{
+    let addrs = [
+        words[25],
+        words[26],
+        words[27],
+        words[28],
+        words[29],
+        words[30],
+        words[31],
+        words[32],
+        words[33],
+        words[34],
+        words[35],
+        words[36],
+        words[37],
+        words[38],
+        words[39],
+        words[40],
+    ];
+    let cfgs = config::config(words[23], words[24]);
+    Pmp { cfgs, addrs }
+}
+
 // The hart of 41 words.
 pub(crate) fn load(words: &[u64]) -> Hart
     requires { ⌜ length (now words) ≡ 41 ⌝ }
     ensures { λ r. ⌜ r ≡ hartOf (now (words .entry)) ⌝ }
 {
-    let mut w = [0u64; 41];
-    copy(words, &mut w);
-    let registers = words::registers_of(w);
-    let pmp = words::pmp_of(w);
+    let registers = registers_at(words);
+    let pmp = pmp_at(words);
     Hart { registers, pmp }
 }
 

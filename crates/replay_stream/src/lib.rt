@@ -3,7 +3,7 @@ use hart::Hart;
 use libc::STDOUT_FILENO;
 use trace::Replay;
 use trap::Answer;
-ghost use Prim.Native.Nat.{_≤_};
+ghost use Prim.Native.Nat.{_≤_, _<_};
 ghost use lib.ListN.{length};
 
 // The bytes that came, and whether a read failed.
@@ -96,7 +96,9 @@ fn piece(fd: i32, input: &mut [u8; 61440], out: &mut [u8; 65536], replay: Replay
     }
 }
 
-fn pieces(fd: i32, input: &mut [u8; 61440], out: &mut [u8; 65536], start: Replay) {
+fn pieces(fd: i32, input: &mut [u8; 61440], out: &mut [u8; 65536], start: Replay) -> usize
+    ensures { λ r. ⌜ r < 60 ⌝ }
+{
     let mut going = Going {
         replay: start,
         came: 0,
@@ -110,19 +112,22 @@ fn pieces(fd: i32, input: &mut [u8; 61440], out: &mut [u8; 65536], start: Replay
         going = piece(fd, input, out, replay);
     }
     if going.failed {
-        return;
+        return 0;
     }
     let replay = going.replay;
     let left = trace::ending::left_over(replay.stopped, going.came);
     let filled = trace::ending::write_ending(replay, left as u64, out);
     let lines = &out[..];
     write(&lines[0..filled]);
+    left
 }
 
-fn replay(fd: i32, start: Replay) {
+fn replay(fd: i32, start: Replay) -> usize
+    ensures { λ r. ⌜ r < 60 ⌝ }
+{
     let mut input = [0u8; 61440];
     let mut out = [0u8; 65536];
-    pieces(fd, &mut input, &mut out, start);
+    pieces(fd, &mut input, &mut out, start)
 }
 
 fn at_reset() -> Replay {
@@ -190,16 +195,22 @@ fn opened(path: &[u8]) -> Started {
     restored(&text[0..count])
 }
 
-// Replays the records of a descriptor from reset.
-pub fn from_reset(fd: i32) {
-    replay(fd, at_reset());
+// Replays the records of a descriptor from reset, and gives the bytes that were short of a record at the end.
+pub fn from_reset(fd: i32) -> usize
+    ensures { λ r. ⌜ r < 60 ⌝ }
+{
+    replay(fd, at_reset())
 }
 
 // Replays them from the saved text in a file. A file that cannot be read, or is refused, is told, and no record is read.
-pub fn from_file(path: &[u8], fd: i32) {
+pub fn from_file(path: &[u8], fd: i32) -> usize
+    ensures { λ r. ⌜ r < 60 ⌝ }
+{
     let started = opened(path);
     if started.ok {
         let start = started.replay;
-        replay(fd, start);
+        replay(fd, start)
+    } else {
+        0
     }
 }
