@@ -43,12 +43,12 @@ fn answer_number(answer: Answer) -> u64 {
     }
 }
 
-pub fn answered(sum: u64, answer: Answer) -> u64 {
+pub(crate) fn answered(sum: u64, answer: Answer) -> u64 {
     summed(sum, answer_number(answer))
 }
 
 // The words of the hart, and the ranges of the map with their owners.
-pub fn left_by(start: u64, hart: Hart, map: Map) -> u64 {
+pub(crate) fn left_by(start: u64, hart: Hart, map: Map) -> u64 {
     let registers = hart.registers;
     let pmp = hart.pmp;
     let words = words::words_of(registers, pmp);

@@ -32,7 +32,7 @@ fn store(address: u64, size: u64) -> Step {
 }
 
 // From reset, 23 steps: sixteen entries of four readable bytes each, and traps and interrupts for both levels.
-pub fn setting(place: u64) -> Step {
+pub(crate) fn setting(place: u64) -> Step {
     match place {
         0..=15 => write(0x3B0 + place, 2 * place + 1),
         16 => write(0x3A0, 0x1111111111111111),
@@ -134,7 +134,7 @@ fn protection_step(place: u64) -> Step {
 }
 
 // The step at a place of a mix.
-pub fn step_of(mix: u64, place: u64) -> Step {
+pub(crate) fn step_of(mix: u64, place: u64) -> Step {
     match mix {
         1 => csr_step(place),
         2 => trap_step(place),
