@@ -69,31 +69,42 @@ fn settle(outcome: Outcome, words: &mut [u64]) -> Answer
     outcome.answer
 }
 
-// A step that looks at no protection register: the words are changed in place, and those of protection are not touched.
+// A step that looks at no protection register: the words are changed in place, and those of protection are not touched. Each arm reads the registers for
+// itself, so that it reads only those that it needs.
 fn step_registers(words: &mut [u64], step: Step) -> Answer
     requires { ⌜ (length (now words) ≡ 41) × (onlyRegisters step ≡ true) ⌝ }
     ensures { λ r. ⌜ r ≡ effect (hartOf (now (words .entry))) step .answer ⌝ }
     ensures { λ _. ⌜ hartOf (now (words .exit)) ≡ effect (hartOf (now (words .entry))) step .hart ⌝ }
 {
-    let registers = registers_at(words);
     match step {
         Step::Reset => Answer::Done,
         Step::Csr(_, _, _) => Answer::Done,
-        Step::Raise(cause, tval) => settle(trap::time::raise_step(registers, cause, tval), words),
-        Step::Lines(lines) => settle(trap::time::lines_step(registers, lines), words),
-        Step::TakeInterrupt => settle(trap::interrupt::take_interrupt(registers), words),
-        Step::Mret => settle(trap::returns::return_from(Level::Machine, registers), words),
-        Step::Sret => settle(
-            trap::returns::return_from(Level::Supervisor, registers),
+        Step::Raise(cause, tval) => {
+            settle(
+                trap::time::raise_step(registers_at(words), cause, tval),
+                words,
+            )
+        }
+        Step::Lines(lines) => settle(trap::time::lines_step(registers_at(words), lines), words),
+        Step::TakeInterrupt => settle(trap::interrupt::take_interrupt(registers_at(words)), words),
+        Step::Mret => settle(
+            trap::returns::return_from(Level::Machine, registers_at(words)),
             words,
         ),
-        Step::Wfi => settle(trap::returns::wait(registers), words),
-        Step::Ecall => settle(trap::enter::environment_call(registers), words),
-        Step::Ebreak => settle(trap::enter::breakpoint(registers), words),
-        Step::Advance(target) => settle(trap::time::advance(registers, target), words),
+        Step::Sret => settle(
+            trap::returns::return_from(Level::Supervisor, registers_at(words)),
+            words,
+        ),
+        Step::Wfi => settle(trap::returns::wait(registers_at(words)), words),
+        Step::Ecall => settle(trap::enter::environment_call(registers_at(words)), words),
+        Step::Ebreak => settle(trap::enter::breakpoint(registers_at(words)), words),
+        Step::Advance(target) => settle(trap::time::advance(registers_at(words), target), words),
         Step::Access(_, _, _) => Answer::Done,
         Step::Elapsed(cycles, retired) => {
-            settle(trap::time::elapse(registers, cycles, retired), words)
+            settle(
+                trap::time::elapse(registers_at(words), cycles, retired),
+                words,
+            )
         }
     }
 }
