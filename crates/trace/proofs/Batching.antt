@@ -1,12 +1,12 @@
 -- The loop over the records of a batch.
-use Prim.Native.Nat.{ℕ, zero, suc, _+_, _-_, _*_, _/_, _%_, _^_, _≤_, _<_, min}
+use Prim.Native.Nat.{ℕ, zero, suc, _+_, _-_, _*_, _%_, _^_, _≤_, _<_}
 use mathlib.Core.Path.{_≡_, refl, sym, ap, _∙_}
 use mathlib.Core.Bool.{Bool, true, false, cond, not, _&&_, _||_}
-use mathlib.Core.List.{List, [], _∷_, _++_, append-nil, append-assoc}
+use mathlib.Core.List.{List, [], _++_, append-nil}
 use native.Mathlib.Omega.{arith}
 use native.Mathlib.Nat.{zero-add}
-use lib.ListN.{length, take, drop, length-append, length-drop}
-use lib.Seq.{sets, length-sets, sets-eq, drop-drop, take-append-le, drop-append-le}
+use lib.ListN.{length, take, drop, length-append}
+use lib.Seq.{sets, length-sets, sets-eq, drop-drop}
 use Rattle.map.specs.declared.Map.{Map}
 use Rattle.hart.specs.declared.Hart.{Hart}
 use Rattle.hart.specs.declared.Step.{Step}
@@ -24,7 +24,7 @@ use Rattle.trace.specs.declared.Written.{Written}
 use Rattle.trace.specs.Records.{readStep}
 use Rattle.trace.specs.Buffers.{Put, atFront}
 use Rattle.trace.specs.Answers.{answerLine, brokenLine}
-use Rattle.trace.specs.Batches.{afterStep, stoppedAt, afterDecoded, decodedLine, afterRecord, recordLine, afterRecords, recordLines, recordsIn, batchLines, batched}
+use Rattle.trace.specs.Batches.{stoppedAt, afterDecoded, decodedLine, afterRecord, recordLine, afterRecords, recordLines, recordsIn, batchLines, batched}
 use Rattle.trace.proofs.Writing.{sets-append, answer-length, broken-length}
 
 -- ---- a replay that has stopped

@@ -1,5 +1,5 @@
 -- The lines behind those of the records.
-use Prim.Native.Nat.{ℕ, zero, suc, _+_, _*_, _≤_, _<_, min}
+use Prim.Native.Nat.{ℕ, _+_, _*_, _≤_, _<_, min}
 use mathlib.Core.Path.{_≡_, refl, sym, ap, _∙_}
 use mathlib.Core.Bool.{Bool, true, false, cond}
 use mathlib.Core.List.{List, [], _∷_, _++_, append-assoc, append-nil}
@@ -8,7 +8,7 @@ use native.Mathlib.Nat.{zero-add}
 use native.Mathlib.Numerals.{add-one}
 use lib.Dec.{eqb}
 use lib.ListN.{length, getD, take, drop, length-append, length-take}
-use lib.Seq.{sets, sets-eq, take-suc}
+use lib.Seq.{sets-eq, take-suc}
 use borrow.Author.Tests.{le-ltb}
 use Rattle.map.specs.declared.Range.{Range}
 use Rattle.map.specs.declared.Map.{Map}
@@ -33,7 +33,9 @@ unfolding savedBuffer stateText
 state-put h buffer after room holds e =
     let n : length (textFor h) ≡ 1027 = text-length (wordsOf (h .registers) (h .pmp)) in
     rw holds (record {
-      bytes = e ∙ rw (holds, le-ltb (length buffer) 1027 room) (sym (sets-eq (textFor h) buffer 0 (omega arith) ∙ ap (λ (k : ℕ). textFor h ++ drop k buffer) (zero-add (length (textFor h)) ∙ n)));
+      bytes =
+          e ∙ rw (holds, le-ltb (length buffer) 1027 room)
+          (sym (sets-eq (textFor h) buffer 0 (omega arith) ∙ ap (λ (k : ℕ). textFor h ++ drop k buffer) (zero-add (length (textFor h)) ∙ n)));
       behind = omega arith;
     })
 

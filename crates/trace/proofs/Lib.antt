@@ -4,3 +4,4 @@ pub mod Writing
 pub mod Batching
 pub mod Endings
 pub mod Cutting
+pub mod Replaying

@@ -2,21 +2,20 @@
 use Prim.Native.Nat.{ℕ, zero, suc, _+_, _-_, _*_, _/_, _%_, _^_, _≤_, _<_}
 use mathlib.Core.Path.{_≡_, refl, sym, ap, _∙_}
 use mathlib.Core.Bool.{Bool, true, false, cond, _&&_}
-use mathlib.Core.List.{List, [], _∷_, _++_, map}
+use mathlib.Core.List.{List, [], _∷_, _++_}
 use native.Mathlib.Omega.{arith}
 use native.Mathlib.Numerals.{add-one}
 use native.Mathlib.Nat.{add-zero, div-div-eq-div-mul, div-one}
 use lib.Dec.{eqb}
 use lib.Pow.{pow-add}
-use lib.ListN.{length, getD, take, drop, take-append-drop, length-take, length-drop, drop-of-length-le}
+use lib.ListN.{length, getD, take, drop, take-append-drop, length-drop, drop-of-length-le}
 use lib.Seq.{length-take-le, drop-cons, drop-drop, getD-take, getD-drop}
-use Rattle.lines.specs.Lines.{bytesOf, hexDigit, hexDigits, lineOf, linesOf, digitValue, numberAt, hasRoom, wordAt, placesOf, wordsOf, isText}
+use Rattle.lines.specs.Lines.{bytesOf, hexDigit, hexDigits, lineOf, linesOf, digitValue, numberAt, wordAt, placesOf, wordsOf, isText}
 use Rattle.bits.specs.Same.{sameList}
 use Rattle.lines.proofs.Digits.{value-below}
 use Rattle.bits.proofs.SameLaws.{same-more, same-all, same-lengths}
-use Rattle.trace.specs.declared.Record.{Record}
 use Rattle.trace.specs.declared.Record.the-variants.{Words, Broken}
-use Rattle.trace.specs.Records.{keys, three, readRecord}
+use Rattle.trace.specs.Records.{keys, readRecord}
 use Rattle.trace.specs.Reader.{hasKey, areDigits, lineAt}
 
 -- ---- a comparison in parts
@@ -63,7 +62,8 @@ pub digits-start : (n : ℕ) (t : List ℕ) (p : ℕ) → areDigits n t p ≡ (t
 digits-start n t p = rw (add-zero p)
 
 pub digits-more : (r : Bool) (t : List ℕ) (p j : ℕ) → j < 16
-    → (r && areDigits (16 - j) t (p + j)) ≡ ((r && eqb (getD t (p + j) 0) (hexDigit (digitValue (getD t (p + j) 0)))) && areDigits (16 - (j + 1)) t (p + (j + 1)))
+    → (r && areDigits (16 - j) t (p + j))
+    ≡ ((r && eqb (getD t (p + j) 0) (hexDigit (digitValue (getD t (p + j) 0)))) && areDigits (16 - (j + 1)) t (p + (j + 1)))
 unfolding areDigits
 digits-more true t p j h =
     let e : 16 - j ≡ suc (16 - (j + 1)) = omega arith in
@@ -169,7 +169,8 @@ module _ (t : List ℕ) (whole : length t ≡ 60) where
       ∙ ap (sameList t) (form-lines (numberAt 16 0 t 5) (numberAt 16 0 t 24) (numberAt 16 0 t 43))
       ∙ line-same t stepKey behindStep 0 (omega arith)
       ∙ ap (λ (b : Bool). lineAt t 0 stepKey .ok && b) (line-same t aKey behindA 22 (omega arith))
-      ∙ ap (λ (b : Bool). lineAt t 0 stepKey .ok && (lineAt t 22 aKey .ok && b)) (line-same t bKey [] 41 (omega arith) ∙ ap (λ (l : List ℕ). lineAt t 41 bKey .ok && sameList l []) e)
+      ∙ ap (λ (b : Bool). lineAt t 0 stepKey .ok && (lineAt t 22 aKey .ok && b))
+      (line-same t bKey [] 41 (omega arith) ∙ ap (λ (l : List ℕ). lineAt t 41 bKey .ok && sameList l []) e)
       ∙ and-three (lineAt t 0 stepKey .ok) (lineAt t 22 aKey .ok) (lineAt t 41 bKey .ok)
 
   pub record-judged : readRecord t ≡ cond ((lineAt t 0 stepKey .ok && lineAt t 22 aKey .ok) && lineAt t 41 bKey .ok)

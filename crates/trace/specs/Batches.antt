@@ -1,10 +1,9 @@
 -- Replaying a trace: each record steps the hart that the one before left, up to a broken record.
 use Prim.Native.Nat.{ℕ, zero, suc, _+_, _/_, _%_, _^_, min}
 use mathlib.Core.Bool.{true, false, cond}
-use mathlib.Core.List.{List, [], _++_}
+use mathlib.Core.List.{List, [], _∷_, _++_}
 use lib.ListN.{length, take, drop}
-use Rattle.map.specs.declared.Map.{Map}
-use Rattle.hart.specs.declared.Hart.{Hart}
+use Rattle.hart.specs.declared.Step.{Step}
 use Rattle.hart.specs.declared.Stepped.{Stepped}
 use Rattle.hart.specs.declared.Decoded.{Decoded}
 use Rattle.hart.specs.declared.Decoded.the-variants.{Formed, Nothing}
@@ -58,3 +57,12 @@ batched input out start = record {
   replay = afterRecords (recordsIn input out) start input;
   filled = length (batchLines input out start);
 }
+
+-- the steps of n records, up to the first broken one
+abbrev pub stepThen : Decoded → List Step → List Step
+stepThen (Formed step) steps = step ∷ steps
+stepThen Nothing steps = []
+
+unfoldable pub stepsRead : ℕ → List ℕ → List Step
+stepsRead zero text = []
+stepsRead (suc n) text = stepThen (readStep (take 60 text)) (stepsRead n (drop 60 text))

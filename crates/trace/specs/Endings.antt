@@ -5,7 +5,6 @@ use mathlib.Core.List.{List, [], _∷_, _++_}
 use lib.Dec.{eqb}
 use Rattle.pmp.specs.Rule.{none}
 use Rattle.map.specs.declared.Range.{Range}
-use Rattle.map.specs.declared.Map.{Map}
 use Rattle.map.specs.Lookup.{rangesIn}
 use Rattle.lines.specs.Lines.{bytesOf, hexDigits}
 use Rattle.hart.specs.declared.Hart.{Hart}

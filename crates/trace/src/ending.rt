@@ -2,8 +2,8 @@
 use crate::Replay;
 use crate::writer::put;
 use crate::writer::put_decimal;
-use crate::writer::put_hex;
 use crate::writer::put_numbered;
+use crate::writer::put_word;
 use hart::Hart;
 use map::Map;
 use map::Range;
@@ -41,10 +41,8 @@ fn put_range(range: Range, out: &mut [u8], place: usize) -> usize
     requires { ⌜ place + 64 ≤ length (now out) ⌝ }
     ensures { λ r. ⌜ Put (now (out .entry)) place (rangeLine range) (now (out .exit)) r ⌝ }
 {
-    let mut next = put(b"range ", out, place);
-    next = put_hex(range.first, out, next);
-    next = put(b" ", out, next);
-    next = put_hex(range.last, out, next);
+    let mut next = put_word(b"range ", range.first, out, place);
+    next = put_word(b" ", range.last, out, next);
     next = put(b" ", out, next);
     next = put_owner(range.owner, out, next);
     put(b"\n", out, next)

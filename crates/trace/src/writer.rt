@@ -3,6 +3,7 @@ use registers::Level;
 use trap::Answer;
 use trap::Trap;
 ghost use mathlib.Core.Path.{_≡_};
+ghost use mathlib.Core.List.{_++_};
 ghost use Prim.Native.Nat.{_+_, _≤_};
 ghost use lib.ListN.{length};
 ghost use Rattle.lines.specs.Lines.{hexDigits};
@@ -23,12 +24,14 @@ pub(crate) fn put(text: &[u8], out: &mut [u8], place: usize) -> usize
     place + i
 }
 
-pub(crate) fn put_hex(word: u64, out: &mut [u8], place: usize) -> usize
-    requires { ⌜ place + 16 ≤ length (now out) ⌝ }
-    ensures { λ r. ⌜ Put (now (out .entry)) place (hexDigits 16 word) (now (out .exit)) r ⌝ }
+// A name and the digits of a word.
+pub(crate) fn put_word(name: &[u8], word: u64, out: &mut [u8], place: usize) -> usize
+    requires { ⌜ place + length (now name) + 16 ≤ length (now out) ⌝ }
+    ensures { λ r. ⌜ Put (now (out .entry)) place (now (name .entry) ++ hexDigits 16 word) (now (out .exit)) r ⌝ }
 {
-    lines::write_word(word, out, place);
-    place + 16
+    let next = put(name, out, place);
+    lines::write_word(word, out, next);
+    next + 16
 }
 
 // Most numbers have one digit.
@@ -96,9 +99,8 @@ fn put_value(old: u64, out: &mut [u8], place: usize) -> usize
     requires { ⌜ place + 64 ≤ length (now out) ⌝ }
     ensures { λ r. ⌜ Put (now (out .entry)) place (answerLine (DoneValue old)) (now (out .exit)) r ⌝ }
 {
-    let next = put(b"done ", out, place);
-    let end = put_hex(old, out, next);
-    put(b"\n", out, end)
+    let next = put_word(b"done ", old, out, place);
+    put(b"\n", out, next)
 }
 
 fn put_trapped(trap: Trap, level: Level, out: &mut [u8], place: usize) -> usize

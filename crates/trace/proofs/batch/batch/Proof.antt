@@ -19,7 +19,6 @@ use Rattle.hart.specs.Steps.{handedBack}
 use Rattle.hart.proofs.Holds.{effect-holds}
 use mathlib.Core.Bool.{true}
 use mathlib.Core.Path.{_≡_, sym, ap, _∙_}
-use native.Mathlib.Omega.{arith}
 use borrow.Author.Needs.{needs}
 use Rattle.trace.proofs.batch.batch.Statement.{statement}
 use Rattle.trace.proofs.batch.batch.Tie as tie

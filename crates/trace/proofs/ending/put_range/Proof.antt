@@ -1,7 +1,7 @@
 use Rattle.trace.proofs.Writing.{put-both, put-length, hex-length}
 use Rattle.trace.proofs.Endings.{owner-length}
 use Rattle.trace.specs.Endings.{rangeLine}
-use Rattle.lines.specs.Lines.{bytesOf}
+use Rattle.lines.specs.Lines.{bytesOf, hexDigits}
 use native.Mathlib.Omega.{arith}
 use Prim.Native.Nat.{_+_}
 use lib.ListN.{length}
@@ -10,64 +10,56 @@ use borrow.Author.Needs.{needs}
 use Rattle.trace.proofs.ending.put_range.Statement.{statement}
 use Rattle.trace.proofs.ending.put_range.Tie as tie
 
--- the place and the length of the buffer after the last byte's digits
-spanned : (c : tie.After-put-hex2) → let a = c .before .before .before .before .before .before .before .before .before .before .before .before .before .before .before .before .before .args in
-    (c .put-hex2 .result ≡ a .place + 39) × (length (c .put-hex2 .last .1 .0) ≡ length (a .out .now))
+-- the place and the length of the buffer after the digits of the last byte
+spanned : (c : tie.After-put-word2) → let a = c .before .before .before .before .before .before .before .before .before .args in
+    (c .put-word2 .result ≡ a .place + 39) × (length (c .put-word2 .last .1 .1 .0) ≡ length (a .out .now))
 spanned c =
-    let m = c .before .before .before .before in
-    let f = m .before .before .before .before .before in
-    let p = f .before .before .before .before in
-    let r = p .before .before .before .before .args .range in (
-      omega (arith, c .put-hex2 .ensures .behind, m .put2 .ensures .behind, f .put-hex .ensures .behind, p .put .ensures .behind, hex-length (r .first), hex-length (r .last)),
-      put-length (c .put-hex2 .ensures) ∙ put-length (m .put2 .ensures) ∙ put-length (f .put-hex .ensures) ∙ put-length (p .put .ensures),
+    let f = c .before .before .before .before .before in
+    let r = f .before .before .before .before .args .range in (
+      omega (arith, c .put-word2 .ensures .behind, f .put-word .ensures .behind, hex-length (r .first), hex-length (r .last)),
+      put-length (c .put-word2 .ensures) ∙ put-length (f .put-word .ensures),
     )
 
-put-requires-2 : tie.Need-put-requires-2
-put-requires-2 c κs = let h = c .before .before .before .before in omega (arith, hex-length (h .before .before .before .before .before .before .before .before .args .range .first))
+put-word-requires-2 : tie.Need-put-word-requires-2
+put-word-requires-2 c κs = let f = c .before .before .before .before in omega (arith, hex-length (f .before .before .before .before .args .range .first))
 
-put-hex-requires-2 : tie.Need-put-hex-requires-2
-put-hex-requires-2 c κs = let h = c .before .before .before .before .before .before .before .before in omega (arith, hex-length (h .before .before .before .before .before .before .before .before .args .range .first))
-
-put-requires-3 : tie.Need-put-requires-3
-put-requires-3 c κs = let s = spanned (c .before .before .before .before) in omega (arith, s .0)
+put-requires : tie.Need-put-requires
+put-requires c κs = omega (arith, spanned (c .before .before .before .before) .0)
 
 put-owner-requires : tie.Need-put-owner-requires
 put-owner-requires c κs =
     let p = c .before .before .before in
-    let h = p .before .before .before .before .before in
-    let s = spanned h in
-    omega (arith, h .before .before .before .before .before .before .before .before .before .before .before .before .before .before .before .before .before .pre, s .0, s .1, p .put3 .ensures .behind, put-length (p .put3 .ensures))
+    let s = spanned (p .before .before .before .before .before) in
+    omega (arith, s .0, s .1)
 
-put-requires-4 : tie.Need-put-requires-4
-put-requires-4 c κs =
+put-requires-2 : tie.Need-put-requires-2
+put-requires-2 c κs =
     let o = c .before .before .before .before in
     let p = o .before .before .before .before in
-    let h = p .before .before .before .before .before in
-    let s = spanned h in
+    let l = p .before .before .before .before .before in
+    let a = l .before .before .before .before .before .before .before .before .before in
+    let s = spanned l in
     omega (
       arith,
-      h .before .before .before .before .before .before .before .before .before .before .before .before .before .before .before .before .before .pre,
+      a .pre,
       s .0,
       s .1,
-      p .put3 .ensures .behind,
-      put-length (p .put3 .ensures),
+      p .put .ensures .behind,
+      put-length (p .put .ensures),
       o .put-owner .ensures .behind,
       put-length (o .put-owner .ensures),
-      owner-length (h .before .before .before .before .before .before .before .before .before .before .before .before .before .before .before .before .before .args .range .owner),
+      owner-length (a .args .range .owner),
     )
 
 returns : tie.Need-returns
-unfolding rangeLine bytesOf
+unfolding rangeLine bytesOf hexDigits
 returns c =
     let e = c .before .before in
     let o = e .before .before .before .before .before in
-    let s = o .before .before .before .before in
-    let l = s .before .before .before .before .before in
-    let m = l .before .before .before .before in
-    let f = m .before .before .before .before .before in
-    let p = f .before .before .before .before in
-    put-both (p .put .ensures) (put-both (f .put-hex .ensures) (put-both (m .put2 .ensures) (put-both (l .put-hex2 .ensures)
-    (put-both (s .put3 .ensures) (put-both (o .put-owner .ensures) (e .put4 .ensures))))))
+    let p = o .before .before .before .before in
+    let l = p .before .before .before .before .before in
+    let f = l .before .before .before .before .before in
+    put-both (f .put-word .ensures) (put-both (l .put-word2 .ensures) (put-both (p .put .ensures) (put-both (o .put-owner .ensures) (e .put2 .ensures))))
 
 pub put-range-spec : {M : Type 1} → statement M
 put-range-spec =
@@ -75,14 +67,12 @@ put-range-spec =
     (tie.spec
     (λ c. search needs)
     (λ c κs. search needs)
-    (λ c κs. search needs)
     (λ c. search needs)
-    put-requires-2
-    put-hex-requires-2
+    put-word-requires-2
     (λ c. search needs)
-    put-requires-3
+    put-requires
     put-owner-requires
     (λ c. search needs)
-    put-requires-4
+    put-requires-2
     (λ c. search needs)
     returns)

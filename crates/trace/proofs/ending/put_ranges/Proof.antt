@@ -1,13 +1,13 @@
 use Rattle.trace.proofs.Writing.{put-both, put-length}
 use Rattle.trace.proofs.Endings.{range-length, lines-more}
-use Rattle.trace.specs.Endings.{rangeLine, rangeLines}
+use Rattle.trace.specs.Endings.{rangeLines}
 use Rattle.trace.specs.Buffers.{Put}
 use Rattle.map.proofs.LookupLaws.{unmapped}
 use Prim.Native.Nat.{_+_, _-_, _*_, _≤_}
 use lib.ListN.{length, getD, take}
 use native.Mathlib.Nat.{add-zero}
 use Rattle.map.specs.declared.Range.{Range}
-use mathlib.Core.Path.{_≡_, refl, sym, _∙_}
+use mathlib.Core.Path.{_≡_, refl, sym}
 use borrow.Author.Needs.{needs}
 use native.Mathlib.Omega.{arith}
 use Rattle.trace.proofs.ending.put_ranges.Statement.{statement}
@@ -22,7 +22,13 @@ abbrev μ-loop : tie.MeasureT-loop
 
 loop-holds : tie.Need-loop-holds Inv-loop μ-loop
 unfolding rangeLines
-loop-holds c = (omega arith, omega (arith, c .count-read .ensures), search (needs, unmapped), omega arith, record { bytes = refl; behind = sym (add-zero (c .before .before .args .place)) })
+loop-holds c = (
+  omega arith,
+  omega (arith, c .count-read .ensures),
+  search (needs, unmapped),
+  omega arith,
+  record { bytes = refl; behind = sym (add-zero (c .before .before .args .place)) },
+)
 
 put-range-requires : tie.Need-put-range-requires Inv-loop μ-loop
 put-range-requires c κs =
@@ -36,8 +42,13 @@ loop-again c =
     let m = l .before .before .before .args .t1 in
     let i = l .loop .inv in
     let d : Range = record { first = 0; last = 0; owner = 0 } in
-    let e = lines-more (m .ranges) (l .loop .k) d (omega (arith, i .2)) in
-    (omega arith, omega arith, i .2, omega (arith, i .3, p .put-range .ensures .behind, range-length (getD (m .ranges) (l .loop .k) d)), rw e at (put-both (i .4) (p .put-range .ensures)))
+    let e = lines-more (m .ranges) (l .loop .k) d (omega (arith, i .2)) in (
+      omega arith,
+      omega arith,
+      i .2,
+      omega (arith, i .3, p .put-range .ensures .behind, range-length (getD (m .ranges) (l .loop .k) d)),
+      rw e at (put-both (i .4) (p .put-range .ensures)),
+    )
 
 same-length : tie.Need-same-length Inv-loop μ-loop
 same-length c = put-length (c .before .loop .inv .4)

@@ -9,7 +9,8 @@ returns c =
     let s = c .before .before in
     let h = s .before .before .before in
     let a = h .before .before .args in
-    state-put (a .hart) (a .out .now) (s .save .last .1 .0) (h .before .before .pre) (sym (h .can-hold .ensures) ∙ s .before .before .if1 .taken) (s .save .ensures .1)
+    state-put (a .hart) (a .out .now) (s .save .last .1 .0) (h .before .before .pre)
+    (sym (h .can-hold .ensures) ∙ s .before .before .if1 .taken) (s .save .ensures .1)
 
 returns-2 : tie.Need-returns-2
 returns-2 c =

@@ -1,12 +1,10 @@
 use Rattle.trace.proofs.Reading.{digits-start, digits-more, digits-all}
-use Rattle.trace.specs.declared.Field.{Field}
 use Rattle.trace.specs.Reader.{areDigits, digitsAt}
 use Rattle.lines.specs.Lines.{hexDigit, digitValue, numberAt}
 use Rattle.lines.proofs.Digits.{number-start, number-more, number-all, number-fits, value-below}
-use lib.Dec.{eqb}
 use lib.ListN.{getD}
-use Prim.Native.Nat.{ℕ, _+_, _-_, _*_, _%_, _^_, _≤_, _<_}
-use mathlib.Core.Bool.{Bool, _&&_}
+use Prim.Native.Nat.{_+_, _-_, _*_, _%_, _^_, _≤_, _<_}
+use mathlib.Core.Bool.{_&&_}
 use mathlib.Core.Path.{_≡_, sym, ap, _∙_}
 use native.Mathlib.Omega.{arith}
 use borrow.Author.Needs.{needs}

@@ -1,5 +1,4 @@
 use Rattle.trace.proofs.Writing.{put-start, put-more, put-all}
-use Rattle.trace.specs.Buffers.{Put}
 use lib.ListN.{length, getD, drop, length-set}
 use lib.Seq.{sets}
 use Prim.Native.Nat.{_+_, _-_, _≤_}

@@ -7,17 +7,31 @@ use Rattle.trace.proofs.writer.put_trapped.Statement.{statement}
 use Rattle.trace.proofs.writer.put_trapped.Tie as tie
 
 put-requires-2 : tie.Need-put-requires-2
-put-requires-2 c κs = let t = c .before .before .before .before in omega (arith, trap-length (t .before .before .before .before .before .before .before .before .args .trap))
+put-requires-2 c κs =
+    let t = c .before .before .before .before in
+    omega (arith, trap-length (t .before .before .before .before .before .before .before .before .args .trap))
 
 put-level-requires : tie.Need-put-level-requires
-put-level-requires c κs = let t = c .before .before .before .before .before .before .before .before in omega (arith, trap-length (t .before .before .before .before .before .before .before .before .args .trap))
+put-level-requires c κs =
+    let t = c .before .before .before .before .before .before .before .before in
+    omega (arith, trap-length (t .before .before .before .before .before .before .before .before .args .trap))
 
 put-requires-3 : tie.Need-put-requires-3
 put-requires-3 c κs =
     let l = c .before .before .before .before in
-    let t = l .before .before .before .before .before .before .before .before .before in
-    let a = t .before .before .before .before .before .before .before .before .args in
-    omega (arith, trap-length (a .trap), level-length (a .level), l .put-level .ensures .behind, l .before .before .before .before .put2 .ensures .behind, t .put-trap .ensures .behind, t .before .before .before .before .put .ensures .behind)
+    let m = l .before .before .before .before in
+    let t = m .before .before .before .before .before in
+    let p = t .before .before .before .before in
+    let a = p .before .before .before .before .args in
+    omega (
+      arith,
+      trap-length (a .trap),
+      level-length (a .level),
+      l .put-level .ensures .behind,
+      m .put2 .ensures .behind,
+      t .put-trap .ensures .behind,
+      p .put .ensures .behind,
+    )
 
 returns : tie.Need-returns
 unfolding answerLine bytesOf
@@ -27,7 +41,8 @@ returns c =
     let m = l .before .before .before .before in
     let t = m .before .before .before .before .before in
     let p = t .before .before .before .before in
-    put-both (p .put .ensures) (put-both (t .put-trap .ensures) (put-both (m .put2 .ensures) (put-both (l .put-level .ensures) (e .put3 .ensures))))
+    put-both (p .put .ensures) (put-both (t .put-trap .ensures)
+    (put-both (m .put2 .ensures) (put-both (l .put-level .ensures) (e .put3 .ensures))))
 
 pub put-trapped-spec : {M : Type 1} → statement M
 put-trapped-spec =

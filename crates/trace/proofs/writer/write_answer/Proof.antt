@@ -14,7 +14,8 @@ returns-2 c =
     let p = c .before .before in
     let e = p .before .before in
     let a = e .before .before .args in
-    written 64 (answerLine (a .answer)) (a .out .now) (p .put-answer .last .1 .0) (p .put-answer .result) (e .if1 .left) (answer-length (a .answer)) (p .put-answer .ensures)
+    written 64 (answerLine (a .answer)) (a .out .now) (p .put-answer .last .1 .0) (p .put-answer .result)
+    (e .if1 .left) (answer-length (a .answer)) (p .put-answer .ensures)
 
 pub write-answer-spec : {M : Type 1} → statement M
 write-answer-spec = tie.close (tie.spec returns (λ c κs. search needs) (λ c. search needs) returns-2)
