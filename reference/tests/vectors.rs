@@ -1,5 +1,5 @@
-//! The program replay_reference on the stored vectors, and on files it cannot
-//! read.
+//! The program replay_reference on the stored vectors, which the crate
+//! replay_vectors of the product runs, and on files it cannot read.
 
 use std::fs::{self, File};
 use std::path::{Path, PathBuf};
@@ -10,22 +10,34 @@ fn program(start: Option<&Path>, input: Stdio) -> Output {
     command.args(start).stdin(input).output().unwrap()
 }
 
-fn stored() -> Vec<PathBuf> {
-    let folder = Path::new(env!("CARGO_MANIFEST_DIR")).join("vectors");
-    fs::read_dir(folder).unwrap().map(|entry| entry.unwrap().path()).collect()
+fn product_crate() -> PathBuf {
+    Path::new(env!("CARGO_MANIFEST_DIR")).join("../crates/replay_vectors")
+}
+
+fn stored() -> PathBuf {
+    product_crate().join("data")
+}
+
+/// Start and trace of each case, in the order in which the crate runs them.
+fn cases() -> Vec<(Option<PathBuf>, String)> {
+    let words = fs::read_to_string(product_crate().join("args")).unwrap();
+    let words: Vec<&str> = words.lines().collect();
+    let start = |word: &str| (word != "-").then(|| stored().join(word));
+    words.chunks(2).map(|pair| (start(pair[0]), pair[1].to_string())).collect()
 }
 
 #[test]
-fn every_stored_vector_comes_out_as_expected() {
-    assert!(stored().len() > 30);
-    for folder in stored() {
-        let start = Some(folder.join("start")).filter(|path| path.exists());
-        let trace = File::open(folder.join("trace")).unwrap();
+fn the_stored_output_is_what_the_model_writes() {
+    assert!(cases().len() > 30);
+    let mut expected = Vec::new();
+    for (start, name) in cases() {
+        let trace = File::open(stored().join(&name)).unwrap();
         let output = program(start.as_deref(), trace.into());
-        assert!(output.status.success() && output.stderr.is_empty(), "{}", folder.display());
-        let expected = fs::read(folder.join("expected")).unwrap();
-        assert!(output.stdout == expected, "{}", folder.display());
+        assert!(output.status.success() && output.stderr.is_empty(), "{name}");
+        expected.extend(format!("{name}\n").bytes());
+        expected.extend(output.stdout);
     }
+    assert!(fs::read(product_crate().join("stdout")).unwrap() == expected);
 }
 
 #[test]
@@ -34,21 +46,19 @@ fn the_stored_vectors_are_those_of_seed_1() {
     let mut command = Command::new(env!("CARGO_BIN_EXE_make_vectors"));
     let output = command.arg(&made).arg("1").output().unwrap();
     let names = String::from_utf8(output.stdout).unwrap();
-    assert_eq!(names.lines().count(), stored().len());
+    assert_eq!(names.lines().count(), cases().len());
     for folder in names.lines().map(Path::new) {
-        for file in ["start", "trace", "expected"].map(|name| folder.join(name)) {
-            let stored = Path::new(env!("CARGO_MANIFEST_DIR")).join("vectors").join(&file);
-            assert!(fs::read(made.join(&file)).ok() == fs::read(stored).ok(), "{}", file.display());
+        for file in ["start", "trace"].map(|name| folder.join(name)) {
+            let (made, stored) = (made.join(&file), stored().join(&file));
+            assert!(fs::read(made).ok() == fs::read(stored).ok(), "{}", file.display());
         }
     }
 }
 
 #[test]
 fn no_stored_file_is_large() {
-    for folder in stored() {
-        for file in fs::read_dir(folder).unwrap() {
-            assert!(file.unwrap().metadata().unwrap().len() < 200_000);
-        }
+    for (_, name) in cases() {
+        assert!(stored().join(name).metadata().unwrap().len() < 200_000);
     }
 }
 

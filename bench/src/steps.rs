@@ -1,0 +1,134 @@
+//! Steps: the reference changed in place, the product through its C interface,
+//! and the method `Hart::step` in the Rattle program `step_speed`.
+
+use std::error::Error;
+use std::hint::black_box;
+use std::process::{Command, Stdio};
+use std::time::Duration;
+
+use reference::{HART_WORDS, Hart, MAP_WORDS, Map, capi, step};
+
+use crate::checksum::Checksum;
+use crate::contest::{Work, contest};
+use crate::mixes::{MIXES, Mix, Words, formed, setting};
+use crate::processor;
+
+const PROGRAM: &str = "target/bin/step_speed";
+/// Steps of one call of `tegrwyllt_run`, a multiple of a mix.
+pub const BATCH: usize = 1_024;
+/// The part of the steps that is timed to be taken off, with the start-up.
+const SHORT: u64 = 8;
+
+/// Nanoseconds a step.
+pub struct Row {
+    pub name: &'static str,
+    pub rust: f64,
+    pub step: f64,
+    pub run: f64,
+    pub method: f64,
+}
+
+pub fn rows(rounds: u32) -> Result<Vec<Row>, Box<dyn Error>> {
+    MIXES.iter().map(|mix| row(rounds, mix)).collect()
+}
+
+fn row(rounds: u32, mix: &Mix) -> Result<Row, Box<dyn Error>> {
+    compare(mix)?;
+    let short = mix.count / SHORT;
+    let mut contenders: [Work<'_>; 5] = [
+        Box::new(|| processor::here(|| in_place(mix, mix.count))),
+        Box::new(|| processor::here(|| one_by_one(mix, mix.count))),
+        Box::new(|| processor::here(|| in_batches(mix, mix.count))),
+        Box::new(|| processor::in_programs(|| by_program(mix, mix.count))),
+        Box::new(|| processor::in_programs(|| by_program(mix, short))),
+    ];
+    let best = contest(rounds, &mut contenders);
+    let each = |time: Duration, steps: u64| time.as_secs_f64() * 1e9 / steps as f64;
+    Ok(Row {
+        name: mix.name,
+        rust: each(best[0], mix.count),
+        step: each(best[1], mix.count),
+        run: each(best[2], mix.count),
+        method: each(best[3].saturating_sub(best[4]), mix.count - short),
+    })
+}
+
+/// All four must leave and answer the same, also where they are timed.
+fn compare(mix: &Mix) -> Result<(), Box<dyn Error>> {
+    let wanted = in_place(mix, mix.count);
+    let found =
+        [one_by_one(mix, mix.count), in_batches(mix, mix.count), by_program(mix, mix.count)];
+    if found != [wanted; 3] {
+        return Err(format!("{}: {found:?} in place of {wanted:?}", mix.name).into());
+    }
+    Ok(())
+}
+
+/// The words that a mix starts from, in the product's interface.
+fn start() -> ([u64; HART_WORDS], [u64; MAP_WORDS]) {
+    let (hart, map) = setting();
+    (hart.to_words(), map.to_words())
+}
+
+fn in_place(mix: &Mix, count: u64) -> Checksum {
+    let (mut hart, mut map): (Hart, Map) = setting();
+    let mut sum = Checksum::default();
+    for &words in endless(mix).take(count as usize) {
+        sum.add_answer(step(&mut hart, &mut map, formed(words)).words());
+    }
+    sum.add_left(&hart.to_words(), &map.to_words());
+    sum
+}
+
+fn one_by_one(mix: &Mix, count: u64) -> Checksum {
+    let (mut hart, mut map) = start();
+    let mut sum = Checksum::default();
+    let mut answer = [0; 3];
+    for &words in endless(mix).take(count as usize) {
+        capi::step(&mut hart, &mut map, words, &mut answer);
+        sum.add_answer(answer);
+    }
+    sum.add_left(&hart, &map);
+    sum
+}
+
+fn in_batches(mix: &Mix, count: u64) -> Checksum {
+    let (mut hart, mut map) = start();
+    let mut sum = Checksum::default();
+    let steps: Vec<u64> = endless(mix).take(BATCH).flatten().copied().collect();
+    let mut answers = vec![0; steps.len()];
+    for _ in 0..count / BATCH as u64 {
+        capi::run(&mut hart, &mut map, &steps, &mut answers);
+        answers.as_chunks().0.iter().for_each(|&answer| sum.add_answer(answer));
+    }
+    sum.add_left(&hart, &map);
+    sum
+}
+
+/// The mix over and over; its steps are hidden from the compiler.
+fn endless(mix: &Mix) -> impl Iterator<Item = &Words> {
+    black_box(&mix.steps).iter().cycle()
+}
+
+/// The checksum at the end of the line that the program writes.
+fn by_program(mix: &Mix, count: u64) -> Checksum {
+    let line = Command::new(PROGRAM)
+        .args([mix.number.to_string(), count.to_string()])
+        .stderr(Stdio::inherit())
+        .output()
+        .unwrap_or_else(|error| panic!("{PROGRAM}: {error}"))
+        .stdout;
+    let line = String::from_utf8_lossy(&line);
+    let digits = line.trim_end().rsplit(' ').next().unwrap_or_default();
+    Checksum(u64::from_str_radix(digits, 16).unwrap_or_else(|_| panic!("{PROGRAM}: {line}")))
+}
+
+/// The lines that `step_speed` writes for all mixes, worked out by the
+/// reference.
+pub fn expected_lines(count: u64) -> String {
+    let line = |mix: &Mix| {
+        let sum = in_place(mix, count);
+        format!("mix {} steps {count} checksum {:016x}\n", mix.number, sum.0)
+    };
+    MIXES.iter().map(line).collect()
+}

@@ -1,0 +1,71 @@
+// A checksum of answers, harts and maps.
+use hart::Hart;
+use map::Map;
+use registers::Level;
+use trap::Answer;
+use trap::Trap;
+
+// Each word counts by its value and by its place.
+fn summed(sum: u64, word: u64) -> u64 {
+    std::num::wrapping_add_u64((sum << 1) | (sum >> 63), word)
+}
+
+fn level_number(level: Level) -> u64 {
+    match level {
+        Level::Supervisor => 1,
+        Level::Machine => 3,
+    }
+}
+
+fn cause_number(trap: Trap) -> u64 {
+    match trap {
+        Trap::Exception(cause) => cause,
+        Trap::Interrupt(number) => std::num::wrapping_add_u64(0x8000000000000000, number),
+    }
+}
+
+fn flag_number(flag: bool) -> u64 {
+    if flag { 1 } else { 0 }
+}
+
+// An answer counts by the sum of the number of its case and its values.
+fn answer_number(answer: Answer) -> u64 {
+    match answer {
+        Answer::Done => 0,
+        Answer::DoneValue(value) => std::num::wrapping_add_u64(1, value),
+        Answer::DoneFlag(flag) => std::num::wrapping_add_u64(2, flag_number(flag)),
+        Answer::Granted => 3,
+        Answer::Trapped(trap, level) => {
+            let level = std::num::wrapping_add_u64(4, level_number(level));
+            std::num::wrapping_add_u64(level, cause_number(trap))
+        }
+        Answer::Refused(number) => std::num::wrapping_add_u64(5, number),
+    }
+}
+
+pub fn answered(sum: u64, answer: Answer) -> u64 {
+    summed(sum, answer_number(answer))
+}
+
+// The words of the hart, and the ranges of the map with their owners.
+pub fn left_by(start: u64, hart: Hart, map: Map) -> u64 {
+    let registers = hart.registers;
+    let pmp = hart.pmp;
+    let words = words::words_of(registers, pmp);
+    let mut sum = start;
+    let mut i: usize = 0;
+    while i < 41 {
+        sum = summed(sum, words[i]);
+        i += 1;
+    }
+    sum = summed(sum, map.count);
+    let mut k: usize = 0;
+    while k < 33 {
+        if (k as u64) < map.count {
+            let range = map.ranges[k];
+            sum = summed(summed(summed(sum, range.first), range.last), range.owner);
+        }
+        k += 1;
+    }
+    sum
+}

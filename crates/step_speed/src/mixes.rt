@@ -1,0 +1,144 @@
+// The mixes: sixteen steps each, by their place, and the steps that come before every mix.
+use csr::Operation;
+use hart::Step;
+use pmp::Access;
+
+fn write(number: u64, operand: u64) -> Step {
+    Step::Csr(Operation::Write, number, operand)
+}
+
+fn set(number: u64, operand: u64) -> Step {
+    Step::Csr(Operation::Set, number, operand)
+}
+
+fn clear(number: u64, operand: u64) -> Step {
+    Step::Csr(Operation::Clear, number, operand)
+}
+
+fn read(number: u64) -> Step {
+    Step::Csr(Operation::Read, number, 0)
+}
+
+fn fetch() -> Step {
+    Step::Access(Access::Fetch, 0, 0)
+}
+
+fn load(address: u64, size: u64) -> Step {
+    Step::Access(Access::Load, address, size)
+}
+
+fn store(address: u64, size: u64) -> Step {
+    Step::Access(Access::Store, address, size)
+}
+
+// From reset, 23 steps: sixteen entries of four readable bytes each, and traps and interrupts for both levels.
+pub fn setting(place: u64) -> Step {
+    match place {
+        0..=15 => write(0x3B0 + place, 2 * place + 1),
+        16 => write(0x3A0, 0x1111111111111111),
+        17 => write(0x3A2, 0x1111111111111111),
+        18 => write(0x305, 0x80000001),
+        19 => write(0x105, 0x40000001),
+        20 => write(0x302, 0x100),
+        21 => write(0x303, 0x222),
+        _ => write(0x304, 0xAAA),
+    }
+}
+
+// Reads, writes, sets and clears, all of them done.
+fn csr_step(place: u64) -> Step {
+    match place {
+        0 => write(0x340, 0x123456789ABCDEF),
+        1 => set(0x300, 0x8),
+        2 => read(0xB00),
+        3 => clear(0x300, 0x8),
+        4 => write(0x305, 0x80000001),
+        5 => read(0xF14),
+        6 => set(0x304, 0x888),
+        7 => read(0x344),
+        8 => write(0x341, 0x80000FFF),
+        9 => clear(0x304, 0x88),
+        10 => read(0x100),
+        11 => write(0x140, 0xFEDCBA9876543210),
+        12 => set(0x302, 0x5),
+        13 => read(0x3B3),
+        14 => write(0x143, 0x42),
+        _ => read(0xC02),
+    }
+}
+
+// From mode M with MPP=U and back to it.
+fn trap_step(place: u64) -> Step {
+    match place {
+        0 => Step::Mret,
+        1 => Step::Ecall,
+        2 => Step::Sret,
+        3 => Step::Ebreak,
+        4 => Step::Mret,
+        5 => Step::Raise(5, 0x1234),
+        6 => Step::Lines(0x80),
+        7 => Step::Mret,
+        8 => Step::TakeInterrupt,
+        9 => Step::Lines(0),
+        10 => Step::Mret,
+        11 => Step::TakeInterrupt,
+        12 => Step::Mret,
+        13 => Step::Wfi,
+        14 => Step::Advance(0x1002),
+        _ => Step::Mret,
+    }
+}
+
+// Two of them fault: an entry matches some of the bytes only, and some lie past the end of memory.
+fn access_step(place: u64) -> Step {
+    match place {
+        0 => fetch(),
+        1 => load(0xC, 4),
+        2 => load(0x7C, 2),
+        3 => store(0x24, 4),
+        4 => load(0x1000, 8),
+        5 => store(0x2000, 8),
+        6 => load(0x8, 8),
+        7 => fetch(),
+        8 => load(0x1003, 1),
+        9 => store(0x44, 2),
+        10 => load(0x3C, 4),
+        11 => store(0x55, 1),
+        12 => load(0xFFFFFFFFFFFFF8, 8),
+        13 => store(0xFFFFFFFFFFFFFC, 8),
+        14 => fetch(),
+        _ => load(0x64, 4),
+    }
+}
+
+// Each of them changes a register, so the map is compiled anew.
+fn protection_step(place: u64) -> Step {
+    match place {
+        0 => write(0x3B0, 0x41),
+        1 => write(0x3B2, 0x1FF),
+        2 => write(0x3B4, 0x49),
+        3 => write(0x3B6, 0x4D),
+        4 => write(0x3B8, 0x51),
+        5 => write(0x3BA, 0x55),
+        6 => write(0x3BC, 0x59),
+        7 => write(0x3A0, 0x1111111B11091119),
+        8 => write(0x3B0, 1),
+        9 => write(0x3B2, 5),
+        10 => write(0x3B4, 9),
+        11 => write(0x3B6, 13),
+        12 => write(0x3B8, 17),
+        13 => write(0x3BA, 21),
+        14 => write(0x3BC, 25),
+        _ => write(0x3A0, 0x1111111111111111),
+    }
+}
+
+// The step at a place of a mix.
+pub fn step_of(mix: u64, place: u64) -> Step {
+    match mix {
+        1 => csr_step(place),
+        2 => trap_step(place),
+        3 => access_step(place),
+        _ => protection_step(place),
+    }
+}

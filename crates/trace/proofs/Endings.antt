@@ -1,0 +1,112 @@
+-- The lines behind those of the records.
+use Prim.Native.Nat.{ℕ, zero, suc, _+_, _*_, _≤_, _<_, min}
+use mathlib.Core.Path.{_≡_, refl, sym, ap, _∙_}
+use mathlib.Core.Bool.{Bool, true, false, cond}
+use mathlib.Core.List.{List, [], _∷_, _++_, append-assoc, append-nil}
+use native.Mathlib.Omega.{arith}
+use native.Mathlib.Nat.{zero-add}
+use native.Mathlib.Numerals.{add-one}
+use lib.Dec.{eqb}
+use lib.ListN.{length, getD, take, drop, length-append, length-take}
+use lib.Seq.{sets, sets-eq, take-suc}
+use borrow.Author.Tests.{le-ltb}
+use Rattle.map.specs.declared.Range.{Range}
+use Rattle.map.specs.declared.Map.{Map}
+use Rattle.map.specs.Lookup.{rangesIn}
+use Rattle.lines.specs.Lines.{bytesOf, hexDigits}
+use Rattle.text.proofs.Form.{text-length}
+use Rattle.words.specs.Words.{wordsOf}
+use Rattle.hart.specs.declared.Hart.{Hart}
+use Rattle.hart.specs.Effects.{canHold}
+use Rattle.hart.specs.Saved.{textFor, savedBuffer}
+use Rattle.trace.specs.declared.Replay.{Replay}
+use Rattle.trace.specs.Buffers.{Put}
+use Rattle.trace.specs.Answers.{decimal, numberedLine}
+use Rattle.trace.specs.Endings.{stateText, ownerText, rangeLine, rangeLines, ending}
+use Rattle.trace.proofs.Writing.{decimal-length, hex-length, numbered-length}
+
+-- ---- the state
+
+pub state-put : (h : Hart) (buffer after : List ℕ) → 1027 ≤ length buffer → canHold h ≡ true → after ≡ savedBuffer h buffer
+    → Put buffer 0 (stateText h) after 1027
+unfolding savedBuffer stateText
+state-put h buffer after room holds e =
+    let n : length (textFor h) ≡ 1027 = text-length (wordsOf (h .registers) (h .pmp)) in
+    rw holds (record {
+      bytes = e ∙ rw (holds, le-ltb (length buffer) 1027 room) (sym (sets-eq (textFor h) buffer 0 (omega arith) ∙ ap (λ (k : ℕ). textFor h ++ drop k buffer) (zero-add (length (textFor h)) ∙ n)));
+      behind = omega arith;
+    })
+
+pub state-none : (h : Hart) (buffer : List ℕ) → canHold h ≡ false → Put buffer 0 (stateText h) buffer 0
+unfolding stateText
+state-none h buffer holds = rw holds (record { bytes = refl; behind = refl })
+
+pub state-length : (h : Hart) → length (stateText h) ≤ 1027
+unfolding stateText
+state-length h = go (canHold h)
+  where
+    go : (b : Bool) → length (cond b (textFor h) []) ≤ 1027
+    go true = omega (arith, text-length (wordsOf (h .registers) (h .pmp)))
+    go false = omega arith
+
+-- ---- ranges
+
+pub owner-length : (owner : ℕ) → length (ownerText owner) ≤ 20
+unfolding ownerText bytesOf
+owner-length owner = go (eqb owner 16)
+  where
+    go : (b : Bool) → length (cond b (110 ∷ 111 ∷ 110 ∷ 101 ∷ []) (decimal owner)) ≤ 20
+    go true = omega arith
+    go false = decimal-length 20 owner
+
+pub range-length : (r : Range) → length (rangeLine r) ≤ 64
+unfolding rangeLine bytesOf
+range-length r =
+    let owner = ownerText (r .owner) ++ (10 ∷ []) in
+    let last = hexDigits 16 (r .last) ++ (32 ∷ owner) in
+    omega (
+      arith,
+      length-append (hexDigits 16 (r .first)) (32 ∷ last),
+      hex-length (r .first),
+      length-append (hexDigits 16 (r .last)) (32 ∷ owner),
+      hex-length (r .last),
+      length-append (ownerText (r .owner)) (10 ∷ []),
+      owner-length (r .owner),
+    )
+
+lines-append : (rs ss : List Range) → rangeLines (rs ++ ss) ≡ rangeLines rs ++ rangeLines ss
+unfolding rangeLines
+lines-append [] ss = refl
+lines-append (r ∷ rs) ss = ap (λ (l : List ℕ). rangeLine r ++ l) (lines-append rs ss) ∙ sym (append-assoc (rangeLine r) (rangeLines rs) (rangeLines ss))
+
+pub lines-length : (rs : List Range) → length (rangeLines rs) ≤ 64 * length rs
+unfolding rangeLines
+lines-length [] = omega arith
+lines-length (r ∷ rs) = omega (arith, length-append (rangeLine r) (rangeLines rs), range-length r, lines-length rs)
+
+-- one range more
+pub lines-more : (rs : List Range) (k : ℕ) (d : Range) → k < length rs → rangeLines (take k rs) ++ rangeLine (getD rs k d) ≡ rangeLines (take (k + 1) rs)
+unfolding rangeLines
+lines-more rs k d h =
+    let r = getD rs k d in
+    sym (ap (λ (n : ℕ). rangeLines (take n rs)) (add-one k) ∙ ap rangeLines (take-suc rs k d h) ∙ lines-append (take k rs) (r ∷ [])
+    ∙ ap (λ (l : List ℕ). rangeLines (take k rs) ++ l) (append-nil (rangeLine r)))
+
+pub ranges-length : (m : Map) → length (rangeLines (rangesIn m)) ≤ 2112
+ranges-length m =
+    let n = min (m .count) 33 in
+    omega (arith, lines-length (rangesIn m), length-take n (m .ranges))
+
+pub ending-length : (r : Replay) (left : ℕ) → length (ending r left) ≤ 4096
+unfolding ending bytesOf
+ending-length r left =
+    let name = bytesOf "left " in
+    let last = numberedLine name left in
+    omega (
+      arith,
+      length-append (stateText (r .hart)) (rangeLines (rangesIn (r .map)) ++ last),
+      state-length (r .hart),
+      length-append (rangeLines (rangesIn (r .map))) last,
+      ranges-length (r .map),
+      numbered-length name left,
+    )

@@ -1,0 +1,9 @@
+use borrow.Author.Needs.{needs}
+use Rattle.trace.proofs.reader.ignores_second.Statement.{statement}
+use Rattle.trace.proofs.reader.ignores_second.Tie as tie
+
+returns : tie.Need-returns
+returns c = rw (c .ignores-first .ensures)
+
+pub ignores-second-spec : {M : Type 1} → statement M
+ignores-second-spec = tie.close (tie.spec (λ c κs. search needs) returns)

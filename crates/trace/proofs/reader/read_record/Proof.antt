@@ -1,0 +1,44 @@
+use Rattle.trace.proofs.Reading.{record-judged, record-short}
+use Rattle.trace.specs.declared.Record.{Record}
+use Rattle.trace.specs.declared.Record.the-variants.{Words, Broken}
+use Rattle.trace.specs.Records.{readRecord}
+use mathlib.Core.Bool.{cond, _&&_}
+use mathlib.Core.Path.{_≡_, sym}
+use borrow.Author.Needs.{needs}
+use Rattle.trace.proofs.reader.read_record.Statement.{statement}
+use Rattle.trace.proofs.reader.read_record.Tie as tie
+
+-- what is known once the three lines are read
+judged : (c : tie.After-struct-known3) →
+    cond ((c .before .before .before .before .before .before .before .read-line .result .ok && c .before .before .before .before .before .read-line2 .result .ok) && c .before .before .before .read-line3 .result .ok)
+    (Words (c .before .before .before .before .before .before .before .read-line .result .word) (c .before .before .before .before .before .read-line2 .result .word) (c .before .before .before .read-line3 .result .word)) Broken
+    ≡ readRecord (c .before .before .before .before .before .before .before .before .before .before .before .args .text .now)
+judged c =
+    let b = c .before .before .before in
+    let a = b .before .before in
+    let s = a .before .before in
+    let e = s .before .before in
+    rw (s .read-line .ensures, a .read-line2 .ensures, b .read-line3 .ensures) (sym (record-judged (e .before .before .args .text .now) (e .if1 .left)))
+
+returns : tie.Need-returns
+returns c = record-short (c .before .before .args .text .now) (c .if1 .taken)
+
+returns-2 : tie.Need-returns-2
+returns-2 c = rw (c .if2 .taken) at (judged (c .before))
+
+returns-3 : tie.Need-returns-3
+returns-3 c = rw (c .if2 .left) at (judged (c .before))
+
+pub read-record-spec : {M : Type 1} → statement M
+read-record-spec =
+    tie.close
+    (tie.spec
+    returns
+    (λ c. search needs)
+    (λ c κs. search needs)
+    (λ c. search needs)
+    (λ c κs. search needs)
+    (λ c. search needs)
+    (λ c κs. search needs)
+    returns-2
+    returns-3)

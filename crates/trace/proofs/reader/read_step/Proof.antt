@@ -1,0 +1,11 @@
+use Rattle.trace.specs.Records.{readStep}
+use borrow.Author.Needs.{needs}
+use Rattle.trace.proofs.reader.read_step.Statement.{statement}
+use Rattle.trace.proofs.reader.read_step.Tie as tie
+
+returns : tie.Need-returns
+unfolding readStep
+returns c = rw (c .record-step .ensures, c .before .read-record .ensures)
+
+pub read-step-spec : {M : Type 1} → statement M
+read-step-spec = tie.close (tie.spec (λ c κs. search needs) (λ c κs. search needs) returns)

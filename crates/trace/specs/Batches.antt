@@ -1,0 +1,60 @@
+-- Replaying a trace: each record steps the hart that the one before left, up to a broken record.
+use Prim.Native.Nat.{ℕ, zero, suc, _+_, _/_, _%_, _^_, min}
+use mathlib.Core.Bool.{true, false, cond}
+use mathlib.Core.List.{List, [], _++_}
+use lib.ListN.{length, take, drop}
+use Rattle.map.specs.declared.Map.{Map}
+use Rattle.hart.specs.declared.Hart.{Hart}
+use Rattle.hart.specs.declared.Stepped.{Stepped}
+use Rattle.hart.specs.declared.Decoded.{Decoded}
+use Rattle.hart.specs.declared.Decoded.the-variants.{Formed, Nothing}
+use Rattle.hart.specs.Steps.{stepped}
+use Rattle.trace.specs.declared.Replay.{Replay}
+use Rattle.trace.specs.declared.Written.{Written}
+use Rattle.trace.specs.Records.{readStep}
+use Rattle.trace.specs.Answers.{answerLine, brokenLine}
+
+-- record numbers wrap at 2^64
+abbrev pub afterStep : Stepped → ℕ → Replay
+afterStep s number = record { hart = s .hart; map = s .map; number = (number + 1) % 2 ^ 64; stopped = false }
+
+abbrev pub stoppedAt : Replay → Replay
+stoppedAt r = record { hart = r .hart; map = r .map; number = r .number; stopped = true }
+
+-- a record's step, or refusal 8, after which no record is read
+abbrev pub afterDecoded : Replay → Decoded → Replay
+afterDecoded r (Formed step) = afterStep (stepped (r .hart) (r .map) step) (r .number)
+afterDecoded r Nothing = stoppedAt r
+
+abbrev pub decodedLine : Replay → Decoded → List ℕ
+decodedLine r (Formed step) = answerLine (stepped (r .hart) (r .map) step .answer)
+decodedLine r Nothing = brokenLine (r .number)
+
+-- one record's text: what it leaves, and its line
+unfoldable pub afterRecord : Replay → List ℕ → Replay
+afterRecord r text = cond (r .stopped) r (afterDecoded r (readStep text))
+
+unfoldable pub recordLine : Replay → List ℕ → List ℕ
+recordLine r text = cond (r .stopped) [] (decodedLine r (readStep text))
+
+-- n records of 60 bytes each
+unfoldable pub afterRecords : ℕ → Replay → List ℕ → Replay
+afterRecords zero r text = r
+afterRecords (suc n) r text = afterRecords n (afterRecord r (take 60 text)) (drop 60 text)
+
+unfoldable pub recordLines : ℕ → Replay → List ℕ → List ℕ
+recordLines zero r text = []
+recordLines (suc n) r text = recordLine r (take 60 text) ++ recordLines n (afterRecord r (take 60 text)) (drop 60 text)
+
+-- the whole records of an input, as far as a buffer has 64 bytes for the line of each
+abbrev pub recordsIn : List ℕ → List ℕ → ℕ
+recordsIn input out = min (length input / 60) (length out / 64)
+
+unfoldable pub batchLines : List ℕ → List ℕ → Replay → List ℕ
+batchLines input out start = recordLines (recordsIn input out) start input
+
+unfoldable pub batched : List ℕ → List ℕ → Replay → Written
+batched input out start = record {
+  replay = afterRecords (recordsIn input out) start input;
+  filled = length (batchLines input out start);
+}

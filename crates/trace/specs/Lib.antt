@@ -1,0 +1,7 @@
+-- The definitions that the contracts cite.
+pub mod Records
+pub mod Reader
+pub mod Buffers
+pub mod Answers
+pub mod Batches
+pub mod Endings

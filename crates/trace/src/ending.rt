@@ -1,0 +1,95 @@
+// What is written behind the lines of the records.
+use crate::Replay;
+use crate::writer::put;
+use crate::writer::put_decimal;
+use crate::writer::put_hex;
+use crate::writer::put_numbered;
+use hart::Hart;
+use map::Map;
+use map::Range;
+ghost use mathlib.Core.Path.{_≡_};
+ghost use Prim.Native.Nat.{_+_, _≤_, min};
+ghost use lib.ListN.{length};
+ghost use Rattle.map.specs.Lookup.{rangesIn};
+ghost use Rattle.trace.specs.Buffers.{Put, writtenTo, writtenLength};
+ghost use Rattle.trace.specs.Endings.{stateText, ownerText, rangeLine, rangeLines, ending, leftOver};
+
+fn put_state(hart: Hart, out: &mut [u8]) -> usize
+    requires { ⌜ 1027 ≤ length (now out) ⌝ }
+    ensures { λ r. ⌜ Put (now (out .entry)) 0 (stateText hart) (now (out .exit)) r ⌝ }
+{
+    if hart.can_hold() {
+        hart.save(out);
+        1027
+    } else {
+        0
+    }
+}
+
+fn put_owner(owner: u64, out: &mut [u8], place: usize) -> usize
+    requires { ⌜ place + 20 ≤ length (now out) ⌝ }
+    ensures { λ r. ⌜ Put (now (out .entry)) place (ownerText owner) (now (out .exit)) r ⌝ }
+{
+    if owner == 16 {
+        put(b"none", out, place)
+    } else {
+        put_decimal(owner, out, place)
+    }
+}
+
+fn put_range(range: Range, out: &mut [u8], place: usize) -> usize
+    requires { ⌜ place + 64 ≤ length (now out) ⌝ }
+    ensures { λ r. ⌜ Put (now (out .entry)) place (rangeLine range) (now (out .exit)) r ⌝ }
+{
+    let mut next = put(b"range ", out, place);
+    next = put_hex(range.first, out, next);
+    next = put(b" ", out, next);
+    next = put_hex(range.last, out, next);
+    next = put(b" ", out, next);
+    next = put_owner(range.owner, out, next);
+    put(b"\n", out, next)
+}
+
+fn count_read(count: u64) -> usize
+    ensures { λ r. ⌜ r ≡ min count 33 ⌝ }
+{
+    if count < 33 { count as usize } else { 33 }
+}
+
+fn put_ranges(map: Map, out: &mut [u8], place: usize) -> usize
+    requires { ⌜ place + 2112 ≤ length (now out) ⌝ }
+    ensures { λ r. ⌜ Put (now (out .entry)) place (rangeLines (rangesIn map)) (now (out .exit)) r ⌝ }
+{
+    let n = count_read(map.count);
+    let mut next = place;
+    let mut k: usize = 0;
+    while k < n {
+        let range = map.ranges[k];
+        next = put_range(range, out, next);
+        k += 1;
+    }
+    next
+}
+
+// The bytes short of a record, of those that came last.
+pub fn left_over(stopped: bool, came: usize) -> usize
+    ensures { λ r. ⌜ r ≡ leftOver stopped came ⌝ }
+{
+    if stopped { 0 } else { came % 60 }
+}
+
+// Writes the saved text of the end state, the ranges of the map and the bytes left over to the front of a buffer of at least 4,096 bytes.
+pub fn write_ending(replay: Replay, left: u64, out: &mut [u8]) -> usize
+    ensures { λ r. ⌜ r ≡ writtenLength 4096 (ending replay left) (now (out .entry)) ⌝ }
+    ensures { λ _. ⌜ now (out .exit) ≡ writtenTo 4096 (ending replay left) (now (out .entry)) ⌝ }
+    ensures { λ r. ⌜ r ≤ length (now (out .entry)) ⌝ }
+{
+    if out.len() < 4096 {
+        return 0;
+    }
+    let hart = replay.hart;
+    let map = replay.map;
+    let mut next = put_state(hart, out);
+    next = put_ranges(map, out, next);
+    put_numbered(b"left ", left, out, next)
+}
