@@ -5,5 +5,6 @@ pub mod CallLaws
 pub mod QueryLaws
 pub mod SaveLaws
 pub mod Exceptions
+pub mod CsrLaws
 pub mod TurnLaws
 pub mod RunLaws

@@ -16,6 +16,7 @@ use Rattle.lines.proofs.Back.{Words}
 use Rattle.words.specs.Arrays.{Arrays}
 use Rattle.words.specs.Words.{registersOf}
 use Rattle.words.proofs.Back.{words-back}
+use Rattle.csr.specs.Show.{isPmp}
 use Rattle.trap.specs.declared.Answer.{Answer}
 use Rattle.trap.specs.declared.Answer.the-variants.{Refused}
 use Rattle.trap.specs.declared.Outcome.{Outcome}
@@ -84,7 +85,7 @@ turn-stays h s m = rw (not-reset m, ← pmp-unchanged h s m, same-pmp-refl (h .p
 -- a step on the registers alone may not remap
 pub registers-stay : (s : Step) → onlyRegisters s ≡ true → mayRemap s ≡ false
 registers-stay Reset e = sym e
-registers-stay (Csr op number operand) e = absurd (false≢true e)
+registers-stay (Csr op number operand) e = not-true (isPmp number) e
 registers-stay (Raise cause tval) e = refl
 registers-stay (Lines lines) e = refl
 registers-stay TakeInterrupt e = refl

@@ -4,6 +4,7 @@ use Prim.Native.Nat.{ℕ}
 use mathlib.Core.List.{List, [], _∷_, _++_}
 use Rattle.registers.specs.declared.Registers.{Registers}
 use Rattle.registers.specs.Same.{samePmp}
+use Rattle.csr.specs.Show.{isPmp}
 use Rattle.trap.specs.declared.Answer.{Answer}
 use Rattle.trap.specs.declared.Answer.the-variants.{Done, DoneValue, DoneFlag, Granted, Trapped, Refused}
 use Rattle.trap.specs.Number.{interruptNumber}
@@ -52,7 +53,7 @@ hartBy h Nothing = h
 -- the steps that look at no protection register
 abbrev pub onlyRegisters : Step → Bool
 onlyRegisters Reset = false
-onlyRegisters (Csr op number operand) = false
+onlyRegisters (Csr op number operand) = not (isPmp number)
 onlyRegisters (Raise cause tval) = true
 onlyRegisters (Lines lines) = true
 onlyRegisters TakeInterrupt = true

@@ -6,6 +6,8 @@ use crate::slices::put_registers;
 use crate::slices::registers_at;
 use crate::slices::store;
 use crate::slices::store_map;
+use csr::Operation;
+use csr::State;
 use hart::Decoded;
 use hart::Step;
 use registers::Level;
@@ -13,10 +15,11 @@ use registers::Pmp;
 use trap::Answer;
 use trap::Outcome;
 ghost use mathlib.Core.Path.{_≡_};
-ghost use mathlib.Core.Bool.{true, cond};
+ghost use mathlib.Core.Bool.{true, false, cond};
 ghost use lib.ListN.{length};
+ghost use Rattle.csr.specs.Show.{isPmp};
 ghost use Rattle.words.specs.Arrays.{Arrays};
-ghost use Rattle.hart.specs.Effects.{canHold, effect, judged};
+ghost use Rattle.hart.specs.Effects.{canHold, csrStep, effect, judged};
 ghost use Rattle.hart.specs.Steps.{mapFor};
 ghost use Rattle.hart.specs.Decode.{decoded, stepsOf};
 ghost use Rattle.hart.specs.Runs.{afterAll};
@@ -43,7 +46,7 @@ fn only_registers(step: Step) -> bool
 {
     match step {
         Step::Reset => false,
-        Step::Csr(_, _, _) => false,
+        Step::Csr(_, number, _) => !csr::is_pmp(number),
         Step::Raise(_, _) => true,
         Step::Lines(_) => true,
         Step::TakeInterrupt => true,
@@ -69,6 +72,29 @@ fn settle(outcome: Outcome, words: &mut [u64]) -> Answer
     outcome.answer
 }
 
+// A CSR step on a register that is not of protection. It looks at no protection register, so any stand for them.
+fn step_csr(words: &mut [u64], operation: Operation, number: u64, operand: u64) -> Answer
+    requires { ⌜ (length (now words) ≡ 41) × (isPmp number ≡ false) ⌝ }
+    ensures { λ r. ⌜ r ≡ csrStep (hartOf (now (words .entry))) operation number operand .answer ⌝ }
+    ensures { λ _. ⌜ hartOf (now (words .exit)) ≡ csrStep (hartOf (now (words .entry))) operation number operand .hart ⌝ }
+{
+    if 4095 < number {
+        return Answer::Refused(2);
+    }
+    let registers = registers_at(words);
+    if csr::is_illegal(registers, operation, number) {
+        return settle(trap::enter::illegal_instruction(registers), words);
+    }
+    let pmp = registers::reset_pmp();
+    let state = State { registers, pmp };
+    let old = csr::read(state, number);
+    let next = csr::operate(state, operation, number, operand);
+    let mut changed = next.registers;
+    changed.pc = trap::returns::next_pc(registers.pc);
+    put_registers(changed, words);
+    Answer::DoneValue(old)
+}
+
 // A step that looks at no protection register: the words are changed in place, and those of protection are not touched. Each arm reads the registers for
 // itself, so that it reads only those that it needs.
 fn step_registers(words: &mut [u64], step: Step) -> Answer
@@ -78,7 +104,7 @@ fn step_registers(words: &mut [u64], step: Step) -> Answer
 {
     match step {
         Step::Reset => Answer::Done,
-        Step::Csr(_, _, _) => Answer::Done,
+        Step::Csr(operation, number, operand) => step_csr(words, operation, number, operand),
         Step::Raise(cause, tval) => {
             settle(
                 trap::time::raise_step(registers_at(words), cause, tval),

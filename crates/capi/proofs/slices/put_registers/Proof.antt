@@ -6,22 +6,6 @@ use Rattle.capi.proofs.slices.put_registers.Tie as tie
 use Rattle.capi.proofs.slices.put_registers.Reads as reads
 use Rattle.capi.proofs.slices.put_registers.Lts as lts
 
--- src/slices.rt:86:5
-slice-write-words : tie.Need-slice-write-words
-slice-write-words c = search needs
-
--- src/slices.rt:87:5
-slice-write-words-2 : tie.Need-slice-write-words-2
-slice-write-words-2 c = search needs
-
--- src/slices.rt:88:5
-slice-write-words-3 : tie.Need-slice-write-words-3
-slice-write-words-3 c = search needs
-
--- src/slices.rt:89:5
-slice-write-words-4 : tie.Need-slice-write-words-4
-slice-write-words-4 c = search needs
-
 -- src/slices.rt:90:5
 slice-write-words-5 : tie.Need-slice-write-words-5
 slice-write-words-5 c = simp length-set (omega arith)
@@ -102,18 +86,14 @@ slice-write-words-23 c = simp length-set (omega arith)
 same-length : tie.Need-same-length
 same-length c = simp length-set
 
--- src/slices.rt:78:1
-returns : tie.Need-returns
-returns c = search needs
-
 pub put-registers-spec : {M : Type 1} → statement M
 put-registers-spec =
     tie.close
     (tie.spec
-    slice-write-words
-    slice-write-words-2
-    slice-write-words-3
-    slice-write-words-4
+    (λ c. search needs)
+    (λ c. search needs)
+    (λ c. search needs)
+    (λ c. search needs)
     slice-write-words-5
     slice-write-words-6
     slice-write-words-7
@@ -134,4 +114,4 @@ put-registers-spec =
     slice-write-words-22
     slice-write-words-23
     same-length
-    returns)
+    (λ c. search needs))
