@@ -6,7 +6,7 @@ use Rattle.pmp.specs.declared.Mode.{Mode}
 use Rattle.pmp.specs.declared.Mode.the-variants.{User, Supervisor, Machine}
 use Rattle.pmp.specs.declared.Access.{Access}
 use Rattle.pmp.specs.declared.Access.the-variants.{Fetch, Load, Store}
-use Rattle.registers.specs.declared.Level.{Level}
+use Rattle.steps.specs.declared.Level.{Level}
 use Rattle.registers.specs.declared.Registers.{Registers}
 use Rattle.registers.specs.Status.{mprv, previousMode}
 

@@ -1,7 +1,9 @@
 // The effective mode of an access.
 use crate::Registers;
+use crate::status::previous_mode;
 use pmp::Access;
 use pmp::Mode;
+use steps::Level;
 ghost use mathlib.Core.Path.{_≡_};
 ghost use Rattle.registers.specs.Effective.{modeOf, dataMode, effectiveMode};
 
@@ -21,7 +23,7 @@ fn data_mode(r: Registers) -> u64
     ensures { λ mode. ⌜ mode ≡ dataMode r ⌝ }
 {
     if (r.mstatus >> 17) % 2 == 1 {
-        (r.mstatus & 0x1800) / 0x800
+        previous_mode(Level::Machine, r.mstatus)
     } else {
         r.mode
     }

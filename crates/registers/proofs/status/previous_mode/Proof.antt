@@ -1,6 +1,6 @@
 use borrow.Author.Needs.{needs}
-use Rattle.trap.proofs.returns.previous_mode.Statement.{statement}
-use Rattle.trap.proofs.returns.previous_mode.Tie as tie
+use Rattle.registers.proofs.status.previous_mode.Statement.{statement}
+use Rattle.registers.proofs.status.previous_mode.Tie as tie
 
 returns : tie.Need-returns
 returns c = rw (c .enum-told .given .1)

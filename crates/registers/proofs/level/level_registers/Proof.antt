@@ -1,6 +1,6 @@
 use borrow.Author.Needs.{needs}
-use Rattle.trap.proofs.enter.level_registers.Statement.{statement}
-use Rattle.trap.proofs.enter.level_registers.Tie as tie
+use Rattle.registers.proofs.level.level_registers.Statement.{statement}
+use Rattle.registers.proofs.level.level_registers.Tie as tie
 
 returns : tie.Need-returns
 returns c = rw (c .before .enum-told .given .1)

@@ -1,6 +1,6 @@
 use borrow.Author.Needs.{needs}
-use Rattle.trap.proofs.enter.with_level_registers.Statement.{statement}
-use Rattle.trap.proofs.enter.with_level_registers.Tie as tie
+use Rattle.registers.proofs.level.with_level_registers.Statement.{statement}
+use Rattle.registers.proofs.level.with_level_registers.Tie as tie
 
 returns : tie.Need-returns
 returns c = rw (c .enum-told .given .1)

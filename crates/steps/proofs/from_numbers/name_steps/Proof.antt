@@ -1,14 +1,14 @@
--- `capi::run::name_steps` meets its contract: the words from a place on decide what is left to decide. Assumes nothing.
+-- The numbers from a place on decide what is left to decide.
 use Prim.Native.Nat.{_-_, _≤_}
 use mathlib.Core.Path.{_≡_, refl, sym, _∙_}
 use mathlib.Core.Bool.{_&&_}
 use lib.ListN.{length, drop}
 use native.Mathlib.Omega.{arith}
 use borrow.Author.Needs.{needs}
-use Rattle.capi.specs.Calls.{nameSteps}
-use Rattle.capi.proofs.RunLaws.{named-next, named-end}
-use Rattle.capi.proofs.run.name_steps.Statement.{statement}
-use Rattle.capi.proofs.run.name_steps.Tie as tie
+use Rattle.steps.specs.Decode.{nameSteps}
+use Rattle.steps.proofs.NumberLaws.{named-next, named-end}
+use Rattle.steps.proofs.from_numbers.name_steps.Statement.{statement}
+use Rattle.steps.proofs.from_numbers.name_steps.Tie as tie
 
 abbrev Inv-loop : tie.InvT-loop
 Inv-loop steps named₀ at₀ named at = (at ≤ length steps) × ((named && nameSteps (drop at steps)) ≡ nameSteps steps)

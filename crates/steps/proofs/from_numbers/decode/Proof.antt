@@ -1,7 +1,7 @@
 use borrow.Author.Tests.{ne-eqb}
-use Rattle.hart.specs.Decode.{decoded}
-use Rattle.hart.proofs.decode.decode.Statement.{statement}
-use Rattle.hart.proofs.decode.decode.Tie as tie
+use Rattle.steps.specs.Decode.{decoded}
+use Rattle.steps.proofs.from_numbers.decode.Statement.{statement}
+use Rattle.steps.proofs.from_numbers.decode.Tie as tie
 
 returns : tie.Need-returns
 unfolding decoded
