@@ -4,3 +4,4 @@ pub mod BitLaws
 pub mod BitSolve
 pub mod Within
 pub mod SameLaws
+pub mod FoldLaws

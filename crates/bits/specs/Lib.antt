@@ -1,3 +1,4 @@
 -- The definitions that the contracts cite.
 pub mod Mask
 pub mod Same
+pub mod Fold
