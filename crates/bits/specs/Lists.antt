@@ -1,0 +1,15 @@
+-- Lists of numbers: a test of every element, and a part by its elements.
+use Prim.Native.Nat.{ℕ, zero, suc, _+_}
+use mathlib.Core.Bool.{Bool, true, _&&_}
+use mathlib.Core.List.{List, [], _∷_}
+use lib.ListN.{getD}
+
+-- every element passes the test
+unfoldable pub all : (ℕ → Bool) → List ℕ → Bool
+all test [] = true
+all test (x ∷ xs) = test x && all test xs
+
+-- n elements from number i on
+unfoldable pub elements : ℕ → ℕ → List ℕ → List ℕ
+elements zero i l = []
+elements (suc n) i l = getD l i 0 ∷ elements n (i + 1) l
