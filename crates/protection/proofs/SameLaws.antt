@@ -6,8 +6,8 @@ use Prim.Native.Nat.{ℕ}
 use Rattle.bits.specs.Same.{sameList}
 use Rattle.bits.proofs.Conjunction.{both, join}
 use Rattle.bits.proofs.SameLaws.{same-eq, same-refl}
-use Rattle.registers.specs.declared.Pmp.{Pmp}
-use Rattle.registers.specs.Same.{samePmp}
+use Rattle.protection.specs.declared.Pmp.{Pmp}
+use Rattle.protection.specs.Same.{samePmp}
 
 pub same-pmp : (a b : Pmp) → samePmp a b ≡ true → a ≡ b
 unfolding samePmp

@@ -1,7 +1,7 @@
 -- 01, "Steps": whether a PMP byte or pmpaddr differs.
 use mathlib.Core.Bool.{Bool, _&&_}
 use Rattle.bits.specs.Same.{sameList}
-use Rattle.registers.specs.declared.Pmp.{Pmp}
+use Rattle.protection.specs.declared.Pmp.{Pmp}
 
 -- no PMP byte and no pmpaddr differs
 unfoldable pub samePmp : Pmp → Pmp → Bool
