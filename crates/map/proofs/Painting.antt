@@ -8,10 +8,11 @@ use native.Mathlib.Omega.{arith}
 use lib.ListN.{length}
 use lib.Dec.{leb}
 use borrow.Author.Tests.{lt-ltb, le-ltb, le-leb, lt-leb}
+use Rattle.bits.proofs.Conjunction.{contradiction, not-true-false, both}
 use Rattle.pmp.specs.declared.Span.{Span}
 use Rattle.pmp.specs.Search.{lowest}
 use Rattle.pmp.specs.Entry.{top, contains}
-use Rattle.pmp.proofs.SearchLaws.{contradiction, not-true-false, and-true, lowest-within}
+use Rattle.pmp.proofs.SearchLaws.{lowest-within}
 use Rattle.pmp.proofs.EntryLaws.{contains-inside, contains-below, contains-beyond}
 use Rattle.map.specs.declared.Range.{Range}
 use Rattle.map.specs.Lookup.{holdsByte}
@@ -40,7 +41,7 @@ holds-before r b x = rw (lt-leb (r .first) b x)
 
 holds-behind : (r : Range) (b : ℕ) → r .last < b → holdsByte r b ≡ false
 holds-behind r b x =
-    not-true-false (holdsByte r b) (λ e. contradiction (and-true (leb (r .first) b) (leb b (r .last)) e .1) (lt-leb b (r .last) x))
+    not-true-false (holdsByte r b) (λ e. contradiction (both (leb (r .first) b) (leb b (r .last)) e .1) (lt-leb b (r .last) x))
 
 -- the owner of each byte once the bytes of s are given to i
 abbrev over : Span → ℕ → (ℕ → ℕ) → ℕ → ℕ

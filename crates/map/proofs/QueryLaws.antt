@@ -7,6 +7,7 @@ use mathlib.Core.Logic.{_⊎_, inl, inr}
 use native.Mathlib.Omega.{arith}
 use lib.Dec.{leb}
 use borrow.Author.Tests.{le-leb, lt-leb}
+use Rattle.bits.proofs.Conjunction.{contradiction, not-true-false}
 use Rattle.pmp.specs.declared.Mode.{Mode}
 use Rattle.pmp.specs.declared.Access.{Access}
 use Rattle.pmp.specs.declared.Decision.{Decision}
@@ -15,7 +16,7 @@ use Rattle.pmp.specs.Number.{faultCause}
 use Rattle.pmp.specs.Search.{everyByte}
 use Rattle.pmp.specs.Entry.{top}
 use Rattle.pmp.specs.Rule.{none, ownerOf, ownerDecides, isSize, byteRule}
-use Rattle.pmp.proofs.SearchLaws.{contradiction, not-true-false, every-all, every-passes}
+use Rattle.pmp.proofs.SearchLaws.{every-all, every-passes}
 use Rattle.pmp.proofs.RuleLaws.{none-beyond, some-beyond, beyond-faults, size-bounds}
 use Rattle.pmp.proofs.Owner.{owner-bound, one-owner, two-owners}
 use Rattle.map.specs.declared.Range.{Range}

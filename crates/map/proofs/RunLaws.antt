@@ -7,10 +7,11 @@ use native.Mathlib.Omega.{arith}
 use native.Mathlib.Numerals.{add-one}
 use lib.Dec.{ltb}
 use borrow.Author.Tests.{lt-ltb, le-ltb}
+use Rattle.bits.proofs.Conjunction.{contradiction}
 use Rattle.pmp.specs.declared.Span.{Span}
 use Rattle.pmp.specs.Search.{lowest}
 use Rattle.pmp.specs.Entry.{top, contains}
-use Rattle.pmp.proofs.SearchLaws.{contradiction, lowest-fails, lowest-passes, lowest-unique}
+use Rattle.pmp.proofs.SearchLaws.{lowest-fails, lowest-passes, lowest-unique}
 use Rattle.pmp.proofs.EntryLaws.{contains-inside, contains-below, contains-beyond}
 use Rattle.map.specs.declared.Range.{Range}
 use Rattle.map.specs.Ranges.{range}
