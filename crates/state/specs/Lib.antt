@@ -1,3 +1,4 @@
 -- The definitions that the contracts cite.
+pub mod Hold
 pub mod Words
-pub mod Arrays
+pub mod Slices

@@ -1,21 +1,17 @@
--- 01, "Saved text": the registers in the order of its keys.
-use Prim.Native.Nat.{ℕ, zero, suc, _+_}
-use mathlib.Core.List.{List, [], _∷_}
+-- 01, "Saved text": the registers as words, in the order of its keys.
+use Prim.Native.Nat.{ℕ}
+use mathlib.Core.List.{List, [], _∷_, _++_}
 use lib.ListN.{getD, take, drop}
-use Rattle.config.specs.Config.{packed, configOf}
-use Rattle.registers.specs.declared.LevelRegisters.{LevelRegisters}
+use Rattle.bits.specs.Lists.{elements}
 use Rattle.registers.specs.declared.Registers.{Registers}
-use Rattle.registers.specs.declared.Pmp.{Pmp}
-
--- n elements from number i on
-unfoldable pub elements : ℕ → ℕ → List ℕ → List ℕ
-elements zero i l = []
-elements (suc n) i l = getD l i 0 ∷ elements n (i + 1) l
+use Rattle.protection.specs.declared.Pmp.{Pmp}
+use Rattle.protection.specs.Configs.{packed, configsOf}
+use Rattle.state.specs.declared.State.{State}
 
 -- mode pc mstatus medeleg mideleg mie mip lines mtvec mcounteren mcountinhibit mscratch mepc mcause mtval
--- stvec scounteren sscratch sepc scause stval mcycle minstret pmpcfg0 pmpcfg2 pmpaddr0 to pmpaddr15
-abbrev pub wordsWith : Registers → ℕ → ℕ → List ℕ → List ℕ
-wordsWith r pmpcfg0 pmpcfg2 addrs =
+-- stvec scounteren sscratch sepc scause stval mcycle minstret
+abbrev pub registerWords : Registers → List ℕ
+registerWords r =
     r .mode
     ∷ r .pc
     ∷ r .mstatus
@@ -39,10 +35,16 @@ wordsWith r pmpcfg0 pmpcfg2 addrs =
     ∷ r .supervisor .tval
     ∷ r .counters .mcycle
     ∷ r .counters .minstret
-    ∷ pmpcfg0 ∷ pmpcfg2 ∷ elements 16 0 addrs
+    ∷ []
 
-unfoldable pub wordsOf : Registers → Pmp → List ℕ
-wordsOf r p = wordsWith r (packed (take 8 (p .cfgs))) (packed (drop 8 (p .cfgs))) (p .addrs)
+-- pmpcfg0 pmpcfg2 pmpaddr0 to pmpaddr15
+abbrev pub pmpWords : Pmp → List ℕ
+pmpWords p = packed (take 8 (p .cfgs)) ∷ packed (drop 8 (p .cfgs)) ∷ elements 16 0 (p .addrs)
+
+unfoldable pub wordsOf : State → List ℕ
+wordsOf s = registerWords (s .registers) ++ pmpWords (s .pmp)
+
+-- ---- and back
 
 abbrev pub registersOf : List ℕ → Registers
 registersOf w =
@@ -72,4 +74,7 @@ registersOf w =
     }
 
 abbrev pub pmpOf : List ℕ → Pmp
-pmpOf w = record { cfgs = configOf (getD w 23 0) (getD w 24 0); addrs = elements 16 25 w }
+pmpOf w = record { cfgs = configsOf (getD w 23 0) (getD w 24 0); addrs = elements 16 25 w }
+
+abbrev pub stateOf : List ℕ → State
+stateOf w = record { registers = registersOf w; pmp = pmpOf w }

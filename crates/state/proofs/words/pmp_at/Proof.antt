@@ -1,33 +1,33 @@
+use Rattle.bits.specs.Lists.{elements}
 use borrow.Author.Needs.{needs}
-use Rattle.words.specs.Words.{elements, pmpOf}
-use Rattle.words.proofs.pmp_of.Statement.{statement}
-use Rattle.words.proofs.pmp_of.Tie as tie
+use Rattle.state.proofs.words.pmp_at.Statement.{statement}
+use Rattle.state.proofs.words.pmp_at.Tie as tie
 
 returns : tie.Need-returns
 unfolding elements
-returns c = λ j. record { cfgs = c .config .ensures j; addrs = pmpOf (c .before .args .t1) .addrs }
+returns c = rw (c .configs-of .ensures)
 
-pub pmp-of-spec : {M : Type 1} → statement M
-pmp-of-spec =
+pub pmp-at-spec : {M : Type 1} → statement M
+pmp-at-spec =
     tie.close
     (tie.spec
     (λ c. search needs)
     (λ c. search needs)
+    (λ c. search needs)
+    (λ c. search needs)
+    (λ c. search needs)
+    (λ c. search needs)
+    (λ c. search needs)
+    (λ c. search needs)
+    (λ c. search needs)
+    (λ c. search needs)
+    (λ c. search needs)
+    (λ c. search needs)
+    (λ c. search needs)
+    (λ c. search needs)
+    (λ c. search needs)
+    (λ c. search needs)
+    (λ c. search needs)
+    (λ c. search needs)
     (λ c κs. search needs)
-    (λ c. search needs)
-    (λ c. search needs)
-    (λ c. search needs)
-    (λ c. search needs)
-    (λ c. search needs)
-    (λ c. search needs)
-    (λ c. search needs)
-    (λ c. search needs)
-    (λ c. search needs)
-    (λ c. search needs)
-    (λ c. search needs)
-    (λ c. search needs)
-    (λ c. search needs)
-    (λ c. search needs)
-    (λ c. search needs)
-    (λ c. search needs)
     returns)
