@@ -22,7 +22,7 @@ use Rattle.state.specs.declared.State.{State}
 use Rattle.state.specs.Hold.{canHold, resetState}
 use Rattle.csr.specs.Permit.{illegal, attemptsWrite}
 use Rattle.csr.specs.Show.{registerRead}
-use Rattle.csr.specs.Store.{operated, registersOperated}
+use Rattle.csr.specs.Operate.{operated, registersOperated}
 use Rattle.trap.specs.declared.Outcome.{Outcome}
 use Rattle.trap.specs.Enter.{raised, illegalInstruction}
 use Rattle.trap.specs.Return.{nextPc}
