@@ -48,3 +48,9 @@ pub elements-are : (l : List ℕ) (n i : ℕ) → length l ≡ i + n → element
 unfolding elements
 elements-are l zero i h = let k : length l ≤ i = omega arith in sym (drop-of-length-le l k)
 elements-are l (suc n) i h = rw (drop-cons l i 0 (omega arith), elements-are l n (i + 1) (omega arith), add-one i)
+
+-- a store past the end
+pub set-past : (l : List ℕ) (i v : ℕ) → length l ≤ i → set l i v ≡ l
+set-past [] i v h = refl
+set-past (x ∷ l) zero v h = absurd (omega arith)
+set-past (x ∷ l) (suc i) v h = ap (λ (t : List ℕ). x ∷ t) (set-past l i v (omega arith))

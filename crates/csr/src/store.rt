@@ -1,5 +1,6 @@
 // What a write stores.
 use registers::Registers;
+use registers::fields;
 use registers::masks;
 ghost use mathlib.Core.Path.{_≡_};
 ghost use Rattle.csr.specs.Store.{statusWritten, tvecWritten, registersWritten};
@@ -9,8 +10,8 @@ fn status_written(old: u64, value: u64) -> u64
     ensures { λ r. ⌜ r ≡ statusWritten old value ⌝ }
 {
     let kept = (value & masks::MSTATUS) | masks::SXL_UXL;
-    if value & masks::MPP == masks::MPP_TWO {
-        (kept & !masks::MPP) | (old & masks::MPP)
+    if value & fields::MPP == fields::MPP_TWO {
+        (kept & !fields::MPP) | (old & fields::MPP)
     } else {
         kept
     }

@@ -1,6 +1,7 @@
 // CSR steps.
 use crate::Taken;
 use crate::events::leave;
+use protection::Pmp;
 use state::load_pmp;
 use state::load_registers;
 use state::store_pmp;
@@ -8,12 +9,11 @@ use state::store_registers;
 use steps::Answer;
 use steps::Operation;
 ghost use mathlib.Core.Path.{_≡_};
+ghost use mathlib.Core.Bool.{true, false};
 ghost use lib.ListN.{length};
-ghost use Rattle.protection.specs.declared.Pmp.{Pmp};
-ghost use Rattle.state.specs.Words.{stateOf, pmpOf};
+ghost use Rattle.state.specs.Words.{stateOf};
 ghost use Rattle.engine.specs.Effects.{pmpOperated, csrStep, protectionStep};
 ghost use Rattle.engine.specs.Taking.{taken};
-use protection::Pmp;
 
 // The protection registers after a CSR step on one of them that is not illegal.
 fn operate_pmp(pmp: Pmp, operation: Operation, number: u64, operand: u64, old: u64) -> Pmp

@@ -6,7 +6,6 @@ use crate::events::step_event;
 use steps::Answer;
 use steps::Step;
 ghost use mathlib.Core.Path.{_≡_};
-ghost use mathlib.Core.Bool.{true};
 ghost use lib.ListN.{length};
 ghost use Rattle.state.specs.Words.{stateOf};
 ghost use Rattle.engine.specs.Effects.{isReset, effect, ruledBy};

@@ -71,7 +71,7 @@ module _ (w : List ℕ) (fit : length w ≡ 41) where
       ap stateOf (pmp-put w fit p)
       ∙ subst (λ (v : List ℕ). stateOf (sets v 23 (pmpWords p)) ≡ record { registers = registersOf v; pmp = p }) (sym (spelt w fit)) (pmp-spelt p w t)
 
-  registers-length : (r : Registers) → length (storedRegisters r w) ≡ 41
+  pub registers-length : (r : Registers) → length (storedRegisters r w) ≡ 41
   registers-length r = ap length (registers-put w fit r) ∙ length-sets w 0 (registerWords r) ∙ fit
 
   -- the words that a whole state leaves are its own
