@@ -69,7 +69,7 @@ pub fn entry_span(cfg: u8, addr: u64, before: u64) -> Span
 }
 
 // The bytes that entry number `entry` matches. Entry 0 has no register before its own: 0 stands for it.
-pub fn span_at(cfgs: [u8; 16], addrs: [u64; 16], entry: usize) -> Span
+pub(crate) fn span_at(cfgs: [u8; 16], addrs: [u64; 16], entry: usize) -> Span
     requires { ⌜ entry < 16 ⌝ }
     ensures { λ r. ⌜ r ≡ entrySpan cfgs addrs entry ⌝ }
 {
@@ -84,7 +84,7 @@ pub fn span_at(cfgs: [u8; 16], addrs: [u64; 16], entry: usize) -> Span
 }
 
 // Whether a byte lies in the span.
-pub fn contains(span: Span, byte: u64) -> bool
+pub(crate) fn contains(span: Span, byte: u64) -> bool
     ensures { λ r. ⌜ r ≡ contains span byte ⌝ }
 {
     span.low <= byte && byte < span.high

@@ -40,4 +40,4 @@ pub struct Span {
 }
 
 // 2^56: the first byte past physical memory.
-const TOP: u64 = 0x100000000000000;
+pub const TOP: u64 = 0x100000000000000;

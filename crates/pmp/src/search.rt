@@ -9,7 +9,7 @@ ghost use Rattle.pmp.specs.Entry.{top, contains};
 ghost use Rattle.pmp.specs.Rule.{lowestMatch};
 
 // The lowest entry that matches any byte of the access, 16 where none does.
-pub fn lowest_match(cfgs: [u8; 16], addrs: [u64; 16], address: u64, size: u64) -> usize
+pub(crate) fn lowest_match(cfgs: [u8; 16], addrs: [u64; 16], address: u64, size: u64) -> usize
     requires { ⌜ address + size ≤ top ⌝ }
     ensures { λ r. ⌜ r ≡ lowestMatch cfgs addrs address size ⌝ }
 {
@@ -31,7 +31,7 @@ pub fn lowest_match(cfgs: [u8; 16], addrs: [u64; 16], address: u64, size: u64) -
 }
 
 // Whether every byte of the access lies in the span.
-pub fn contains_all(span: Span, address: u64, size: u64) -> bool
+pub(crate) fn contains_all(span: Span, address: u64, size: u64) -> bool
     requires { ⌜ address + size ≤ top ⌝ }
     ensures { λ r. ⌜ r ≡ everyByte (contains span) size address ⌝ }
 {

@@ -15,7 +15,7 @@ use Rattle.pmp.proofs.SearchLaws.{lowest-fails, lowest-passes, lowest-unique}
 use Rattle.pmp.proofs.EntryLaws.{contains-inside, contains-below, contains-beyond}
 use Rattle.map.specs.declared.Range.{Range}
 use Rattle.map.specs.Ranges.{range}
-use Rattle.map.specs.Sweep.{Settled, rangeFrom}
+use Rattle.map.specs.Sweep.{Normalized, rangeFrom}
 use Rattle.map.proofs.Lawful.{less, Run}
 
 -- ---- a loop over the entries: i is the next one
@@ -49,7 +49,7 @@ module _ (spans : ℕ → Span) (at i end : ℕ) where
 abbrev pub lowestOwner : (ℕ → Span) → ℕ → ℕ
 lowestOwner spans b = lowest (λ k. contains (spans k) b) 16 0
 
-module _ (spans : ℕ → Span) (at : ℕ) (known : Settled spans) where
+module _ (spans : ℕ → Span) (at : ℕ) (known : Normalized spans) where
   -- no entry below i matches a byte from `at` up to `end`, and one of them starts there unless memory ends
   record Free (i end : ℕ) : Type 0 where
     ahead : at < end
@@ -68,42 +68,40 @@ module _ (spans : ℕ → Span) (at : ℕ) (known : Settled spans) where
   abbrev pub Reached : Range → Type 0
   Reached r = (r .first ≡ at) × Run (lowestOwner spans) r
 
-  last-run : (i end : ℕ) → i ≡ 16 → Free i end → Reached (range at (end - 1) i)
-  last-run i end h f =
-      let s : suc (end - 1) ≡ end = omega (arith, f .ahead) in (
+  -- the range that the bytes up to `stop` make, where entry i matches them (16 matches all) and the owner changes at `stop`
+  reached : (i end stop : ℕ) → i ≤ 16 → Free i end → at < stop → stop ≤ end
+      → (i < 16 → (b : ℕ) → at ≤ b → b < stop → contains (spans i) b ≡ true) → (stop < top → lowestOwner spans stop ≡ i → ⊥)
+      → Reached (range at (stop - 1) i)
+  reached i end stop h f some below match change =
+      let s : suc (stop - 1) ≡ stop = omega arith in (
         refl,
         record {
-          some = omega (arith, f .ahead);
-          below = omega (arith, f .ahead, f .bound);
+          some = omega arith;
+          below = omega (arith, f .bound);
           owned = λ b x y.
-              lowest-unique (λ k. contains (spans k) b) 16 0 i (omega arith) (omega arith)
-              (λ k u v. f .free k b v x (omega (arith, f .ahead))) (λ l. absurd (omega arith));
-          ends = λ l e. not-owner i end f (omega arith) (rw s at e);
+              lowest-unique (λ k. contains (spans k) b) 16 0 i (omega arith) h
+              (λ k u v. f .free k b v x (omega arith)) (λ l. match l b x (omega arith));
+          ends = λ l e. change (omega arith) (rw s at e);
         },
       )
 
+  last-run : (i end : ℕ) → i ≡ 16 → Free i end → Reached (range at (end - 1) i)
+  last-run i end h f = reached i end end (omega arith) f (f .ahead) (omega arith) (λ l. absurd (omega arith)) (not-owner i end f)
+
   owner-run : (i end : ℕ) → i < 16 → spans i .low ≤ at → at < spans i .high → Free i end → Reached (range at (min end (spans i .high) - 1) i)
-  owner-run i end h l k f = (
-    refl,
-    record {
-      some = omega (arith, f .ahead);
-      below = omega (arith, f .ahead, f .bound);
-      owned = λ b x y.
-          lowest-unique (λ j. contains (spans j) b) 16 0 i (omega arith) (omega arith)
-          (λ j u v. f .free j b v x (omega (arith, f .ahead))) (λ _. contains-inside (spans i) b (omega arith) (omega (arith, f .ahead)));
-      ends = λ u e. go u e (less (spans i .high) end);
-    },
-  )
+  owner-run i end h l k f =
+      reached i end (min end (spans i .high)) (omega arith) f (omega (arith, f .ahead)) (omega arith)
+      (λ _ b x y. contains-inside (spans i) b (omega arith) (omega arith))
+      (λ u e. go u e (less (spans i .high) end))
     where
-      go : suc (min end (spans i .high) - 1) < top → lowestOwner spans (suc (min end (spans i .high) - 1)) ≡ i
-          → (spans i .high < end) ⊎ (end ≤ spans i .high) → ⊥
+      go : min end (spans i .high) < top → lowestOwner spans (min end (spans i .high)) ≡ i → (spans i .high < end) ⊎ (end ≤ spans i .high) → ⊥
       go u e (inl w) =
-          let s : suc (min end (spans i .high) - 1) ≡ spans i .high = omega arith in
+          let s : min end (spans i .high) ≡ spans i .high = omega arith in
           let t : lowestOwner spans (spans i .high) ≡ i = rw s at e in
           let q = lowest-passes (λ j. contains (spans j) (spans i .high)) 16 0 (omega arith) in
           contradiction (ap (λ (j : ℕ). contains (spans j) (spans i .high)) (sym t) ∙ q) (contains-beyond (spans i) (spans i .high) (omega arith))
       go u e (inr w) =
-          let s : suc (min end (spans i .high) - 1) ≡ end = omega (arith, f .ahead) in
+          let s : min end (spans i .high) ≡ end = omega arith in
           not-owner i end f (omega arith) (rw s at e)
 
   later-free : (i end : ℕ) → i < 16 → at < spans i .low → Free i end → Free (suc i) (min end (spans i .low))
