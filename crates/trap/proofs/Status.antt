@@ -95,23 +95,23 @@ moved-down Supervisor x = and-shr x 0x20 4
 moved-down Machine x = and-shr x 0x80 4
 
 -- all bits but MPRV are left
-mprv-cleared : (machine : Bool) → bitOr (2 ^ 64 - 1 - cond machine 0 mprvMask) mprvMask ≡ 2 ^ 64 - 1
-mprv-cleared true = refl
-mprv-cleared false = refl
+abbrev allButMprv : G → G
+allButMprv g = imp (or (var 2) (lit mprvMask)) (lit (2 ^ 64 - 1)) g
+
+all-but-mprv : (machine : Bool) → bitOr (2 ^ 64 - 1 - cond machine 0 mprvMask) mprvMask ≡ 2 ^ 64 - 1
+all-but-mprv true = refl
+all-but-mprv false = refl
 
 -- the bits stay those that can be kept; MPP is as it was for S, and 0 for M
-abbrev leftBut : G → G
-leftBut g = imp (or (var 2) (lit mprvMask)) (lit (2 ^ 64 - 1)) g
-
 abbrev returnedKept : Level → G
-returnedKept level = leftBut (imp (keptE (var 0)) (var 0) (eq (keptE (returnedE level)) (returnedE level)))
+returnedKept level = allButMprv (imp (keptE (var 0)) (var 0) (eq (keptE (returnedE level)) (returnedE level)))
 
 abbrev returnedMpp : Level → E
 returnedMpp Supervisor = and (var 0) (lit (ppMask Machine))
 returnedMpp Machine = lit 0
 
 abbrev returnedMppIs : Level → G
-returnedMppIs level = leftBut (eq (and (returnedE level) (lit (ppMask Machine))) (returnedMpp level))
+returnedMppIs level = allButMprv (eq (and (returnedE level) (lit (ppMask Machine))) (returnedMpp level))
 
 returned-check : (level : Level) → (check 3 (returnedKept level) ≡ true) × (check 3 (returnedMppIs level) ≡ true)
 returned-check Supervisor = (refl, refl)
@@ -127,7 +127,7 @@ unfolding returnedStatus
 returned-status-holdable level x p =
     let w = returned-check level in
     let left = 2 ^ 64 - 1 - clearedMprv (previousMode level x) in
-    let l = mprv-cleared (eqb (previousMode level x) 3) in
+    let l = all-but-mprv (eqb (previousMode level x) 3) in
     rw (moved-down level x)
     (join _ _ (eq-eqb _ _ (solve (returnedKept level) (x ∷ x / 16 ∷ left ∷ []) (w .0) l (kept x p)))
     (rw (solve (returnedMppIs level) (x ∷ x / 16 ∷ left ∷ []) (w .1) l) (mpp-held level x (x / 16) left (status-held x p .mpp))))

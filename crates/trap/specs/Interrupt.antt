@@ -28,15 +28,14 @@ linesStep r lines =
     })
     (refusedStep r 2)
 
--- not delegated, mode is below M or MIE=1; delegated, mode is U, or S with SIE=1
+-- not delegated (to M), mode is below M or MIE=1; delegated (to S), mode is U, or S with SIE=1
 abbrev pub admits : Level → Registers → Bool
 admits Machine r = ltb (r .mode) 3 || enabled Machine (r .mstatus)
 admits Supervisor r = eqb (r .mode) 0 || (eqb (r .mode) 1 && enabled Supervisor (r .mstatus))
 
--- mip and mie bit i are 1, and the level that it goes to admits it
+-- interrupt i is takeable if mip and mie bit i are 1 and the level that it goes to admits it
 unfoldable pub takeable : Registers → ℕ → Bool
-takeable r i =
-    testBit (pending r) i && (testBit (r .interrupts .mie) i && admits (destination r (Interrupt i)) r)
+takeable r i = testBit (pending r) i && (testBit (r .interrupts .mie) i && admits (destination r (Interrupt i)) r)
 
 -- the first number of the list that passes the test
 abbrev pub firstOf : (ℕ → Bool) → List ℕ → Choice

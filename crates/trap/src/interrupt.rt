@@ -16,7 +16,7 @@ use steps::Trap;
 ghost use mathlib.Core.Path.{_≡_};
 ghost use Rattle.trap.specs.Interrupt.{linesStep, admits, takeable, firstOf, priority, interruptTaken};
 
-// Replaces the lines; others than there are have it refused.
+// Replaces the lines; bits that are no lines are refused.
 pub fn lines_step(r: Registers, lines: u64) -> Outcome
     ensures { λ o. ⌜ o ≡ linesStep r lines ⌝ }
 {
@@ -32,7 +32,7 @@ pub fn lines_step(r: Registers, lines: u64) -> Outcome
     }
 }
 
-// Whether mode and mstatus let an interrupt to the level in.
+// Whether mode and mstatus admit an interrupt that goes to the level.
 fn admits(level: Level, r: Registers) -> bool
     ensures { λ b. ⌜ b ≡ admits level r ⌝ }
 {
