@@ -13,21 +13,22 @@ use Rattle.registers.specs.declared.LevelRegisters.{LevelRegisters}
 use Rattle.registers.specs.declared.Interrupts.{Interrupts}
 use Rattle.registers.specs.declared.Registers.{Registers}
 use Rattle.registers.specs.Masks.{mstatusMask, sxlUxl, medelegMask, midelegMask, mieMask, mipMask, linesMask, countersMask, causeMask}
+use Rattle.registers.specs.Status.{ppMask, mppTwo}
 use Rattle.registers.specs.Hold.{isMode, aligned, keptStatus, statusHoldable, interruptsHoldable, levelHoldable, registersHoldable, resetRegisters}
 use Rattle.registers.specs.Update.{withFlow, withMedeleg, withInterrupts, withCounters, levelOf, withLevel}
 
 -- mstatus = 0xA00000000 plus bits within 0x7A19AA; MPP not 2
 pub record StatusHeld (mstatus : ℕ) : Type 0 where
   pub kept : eqb (keptStatus mstatus) mstatus ≡ true
-  pub mpp : not (eqb (bitAnd mstatus 0x1800) 0x1000) ≡ true
+  pub mpp : not (eqb (bitAnd mstatus (ppMask Machine)) mppTwo) ≡ true
 
 pub status-held : (mstatus : ℕ) → statusHoldable mstatus ≡ true → StatusHeld mstatus
 status-held mstatus p =
-    let w = both (eqb (keptStatus mstatus) mstatus) (not (eqb (bitAnd mstatus 0x1800) 0x1000)) p in
+    let w = both (eqb (keptStatus mstatus) mstatus) (not (eqb (bitAnd mstatus (ppMask Machine)) mppTwo)) p in
     record { kept = w .0; mpp = w .1 }
 
 pub status-hold : (mstatus : ℕ) → StatusHeld mstatus → statusHoldable mstatus ≡ true
-status-hold mstatus k = join (eqb (keptStatus mstatus) mstatus) (not (eqb (bitAnd mstatus 0x1800) 0x1000)) (k .kept) (k .mpp)
+status-hold mstatus k = join (eqb (keptStatus mstatus) mstatus) (not (eqb (bitAnd mstatus (ppMask Machine)) mppTwo)) (k .kept) (k .mpp)
 
 -- what is kept of an mstatus, for equations with literal masks
 abbrev pub keptE : E → E

@@ -1,6 +1,6 @@
 -- 01, "Protection, byte by byte": the effective mode of an access.
 use Prim.Native.Nat.{ℕ}
-use mathlib.Core.Bool.{Bool, cond}
+use mathlib.Core.Bool.{cond}
 use lib.Dec.{eqb}
 use Rattle.pmp.specs.declared.Mode.{Mode}
 use Rattle.pmp.specs.declared.Mode.the-variants.{User, Supervisor, Machine}

@@ -9,7 +9,7 @@ use Rattle.registers.specs.declared.LevelRegisters.{LevelRegisters}
 use Rattle.registers.specs.declared.Interrupts.{Interrupts}
 use Rattle.registers.specs.declared.Registers.{Registers}
 use Rattle.registers.specs.Masks.{mstatusMask, sxlUxl, medelegMask, midelegMask, mieMask, mipMask, linesMask, countersMask, causeMask}
-use Rattle.registers.specs.Status.{ppMask}
+use Rattle.registers.specs.Status.{ppMask, mppTwo}
 
 -- mode 0, 1 or 3
 abbrev pub isMode : ℕ → Bool
@@ -25,7 +25,7 @@ keptStatus mstatus = bitOr (bitAnd mstatus mstatusMask) sxlUxl
 
 -- mstatus = 0xA00000000 plus bits within 0x7A19AA, MPP not 2
 abbrev pub statusHoldable : ℕ → Bool
-statusHoldable mstatus = eqb (keptStatus mstatus) mstatus && not (eqb (bitAnd mstatus (ppMask Machine)) 0x1000)
+statusHoldable mstatus = eqb (keptStatus mstatus) mstatus && not (eqb (bitAnd mstatus (ppMask Machine)) mppTwo)
 
 -- mideleg within 0x222; mie within 0xAAA; mip software bits within 0x222; lines within 0xA88
 abbrev pub interruptsHoldable : Interrupts → Bool

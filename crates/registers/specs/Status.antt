@@ -1,5 +1,5 @@
 -- 01, "What a hart can hold" and "Traps, returns, time": the fields of mstatus, by level where both have one.
-use Prim.Native.Nat.{ℕ, _/_}
+use Prim.Native.Nat.{ℕ, _*_, _/_}
 use mathlib.Core.Bool.{Bool}
 use lib.Bits.{bitAnd, bitOr}
 use Rattle.bits.specs.Mask.{testBit}
@@ -40,6 +40,10 @@ ppModes Machine = 4
 -- the number in MPP or SPP
 abbrev pub previousMode : Level → ℕ → ℕ
 previousMode level mstatus = bitAnd mstatus (ppMask level) / ppUnit level
+
+-- MPP=2, which no hart can hold
+abbrev pub mppTwo : ℕ
+mppTwo = 2 * ppUnit Machine
 
 abbrev pub mprvMask : ℕ
 mprvMask = 0x20000

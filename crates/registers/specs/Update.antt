@@ -3,8 +3,6 @@ use Prim.Native.Nat.{ℕ}
 use Rattle.steps.specs.declared.Level.{Level}
 use Rattle.steps.specs.declared.Level.the-variants.{Supervisor, Machine}
 use Rattle.registers.specs.declared.LevelRegisters.{LevelRegisters}
-use Rattle.registers.specs.declared.Interrupts.{Interrupts}
-use Rattle.registers.specs.declared.Counters.{Counters}
 use Rattle.registers.specs.declared.Registers.{Registers}
 
 -- mode, pc and mstatus, which traps and returns change together

@@ -1,5 +1,6 @@
 // The effective mode of an access.
 use crate::Registers;
+use crate::fields::MPRV;
 use crate::status::previous_mode;
 use pmp::Access;
 use pmp::Mode;
@@ -22,7 +23,7 @@ pub fn mode_of(number: u64) -> Mode
 fn data_mode(r: Registers) -> u64
     ensures { λ mode. ⌜ mode ≡ dataMode r ⌝ }
 {
-    if (r.mstatus >> 17) % 2 == 1 {
+    if r.mstatus / MPRV % 2 == 1 {
         previous_mode(Level::Machine, r.mstatus)
     } else {
         r.mode

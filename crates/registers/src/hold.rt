@@ -3,6 +3,7 @@ use crate::Counters;
 use crate::Interrupts;
 use crate::LevelRegisters;
 use crate::Registers;
+use crate::fields;
 use crate::masks;
 ghost use mathlib.Core.Path.{_≡_};
 ghost use Rattle.registers.specs.Hold.{interruptsHoldable, levelHoldable, registersHoldable, resetRegisters};
@@ -34,7 +35,7 @@ pub fn registers_can_hold(r: Registers) -> bool
     let mode = (r.mode == 0) | ((r.mode == 1) | (r.mode == 3));
     let pc = r.pc % 4 == 0;
     let status = (((r.mstatus & masks::MSTATUS) | masks::SXL_UXL) == r.mstatus)
-        & (r.mstatus & masks::MPP != masks::MPP_TWO);
+        & (r.mstatus & fields::MPP != fields::MPP_TWO);
     let medeleg = r.medeleg & masks::MEDELEG == r.medeleg;
     let interrupts = interrupts_can_hold(r.interrupts);
     let inhibit = r.counters.mcountinhibit & masks::COUNTERS == r.counters.mcountinhibit;

@@ -1,5 +1,6 @@
 // The registers of a hart but those of protection, each as a raw number: a value that no hart can hold can be given, and is refused.
 mod effective;
+pub mod fields;
 mod hold;
 mod level;
 pub mod masks;

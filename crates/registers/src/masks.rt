@@ -25,8 +25,3 @@ pub const COUNTERS: u64 = 0x5;
 
 // mcause and scause.
 pub const CAUSE: u64 = 0x800000000000003F;
-
-// MPP, and MPP=2, which no hart can hold.
-pub const MPP: u64 = 0x1800;
-
-pub const MPP_TWO: u64 = 0x1000;

@@ -1,5 +1,8 @@
-// Fields that several registers make up.
+// Fields that several registers make up, and fields that both levels have.
 use crate::Registers;
+use crate::fields::MPP;
+use crate::fields::MPP_ONE;
+use crate::fields::SPP;
 use steps::Level;
 ghost use mathlib.Core.Path.{_≡_};
 ghost use Rattle.registers.specs.Status.{pending, previousMode};
@@ -16,7 +19,7 @@ pub fn previous_mode(level: Level, mstatus: u64) -> u64
     ensures { λ m. ⌜ m ≡ previousMode level mstatus ⌝ }
 {
     match level {
-        Level::Supervisor => (mstatus & 0x100) / 0x100,
-        Level::Machine => (mstatus & 0x1800) / 0x800,
+        Level::Supervisor => (mstatus & SPP) / SPP,
+        Level::Machine => (mstatus & MPP) / MPP_ONE,
     }
 }

@@ -1,8 +1,8 @@
 use borrow.Author.Tests.{eq-eqb, ne-eqb}
-use Rattle.trap.specs.Time.{linesStep}
+use Rattle.trap.specs.Interrupt.{linesStep}
 use borrow.Author.Needs.{needs}
-use Rattle.trap.proofs.time.lines_step.Statement.{statement}
-use Rattle.trap.proofs.time.lines_step.Tie as tie
+use Rattle.trap.proofs.interrupt.lines_step.Statement.{statement}
+use Rattle.trap.proofs.interrupt.lines_step.Tie as tie
 
 returns : tie.Need-returns
 unfolding linesStep

@@ -1,8 +1,8 @@
 use borrow.Author.Tests.{le-leb, lt-leb}
-use Rattle.trap.specs.Time.{raiseStep}
+use Rattle.trap.specs.Enter.{raiseStep}
 use borrow.Author.Needs.{needs}
-use Rattle.trap.proofs.time.raise_step.Statement.{statement}
-use Rattle.trap.proofs.time.raise_step.Tie as tie
+use Rattle.trap.proofs.enter.raise_step.Statement.{statement}
+use Rattle.trap.proofs.enter.raise_step.Tie as tie
 
 returns : tie.Need-returns
 unfolding raiseStep
