@@ -18,7 +18,7 @@ use Rattle.registers.specs.Hold.{statusHoldable, registersHoldable}
 use Rattle.registers.specs.Update.{withStatus}
 use Rattle.registers.proofs.Held.{held, flow-kept, medeleg-kept, interrupts-kept, counters-kept}
 use Rattle.csr.specs.Permit.{attemptsWrite}
-use Rattle.csr.specs.Replace.{withMideleg, withMie, withMip, withMcountinhibit, withMcycle, withMinstret}
+use Rattle.csr.specs.Replace.{withMideleg, withMie, withMip, withMcycle, withMinstret}
 use Rattle.csr.specs.Store.{sieWritten, sipWritten, registersWritten}
 use Rattle.csr.specs.Operate.{registersOperated}
 use Rattle.csr.proofs.StatusKept.{status-kept, sstatus-kept}

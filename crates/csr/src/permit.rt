@@ -2,7 +2,7 @@
 use registers::Registers;
 use steps::Operation;
 ghost use mathlib.Core.Path.{_≡_};
-ghost use Rattle.csr.specs.Permit.{presentMachine, presentSupervisor, presentUser, present, attemptsWrite, counterHidden, illegal};
+ghost use Rattle.csr.specs.Permit.{presentMachine, presentSupervisor, present, attemptsWrite, counterHidden, illegal};
 
 fn is_present_machine(n: u64) -> bool
     ensures { λ r. ⌜ r ≡ presentMachine n ⌝ }
