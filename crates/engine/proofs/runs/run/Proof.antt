@@ -41,10 +41,11 @@ returns-2 c =
     let i = r .before .before .before in
     let n = i .before in
     let a = n .before .before .before .before .args in
-    let k = sym (tested n) ∙ not-false _ (i .if1 .left) in (
+    let k = sym (tested n) ∙ not-false _ (i .if1 .left) in
+    let w : length (a .words .now) ≡ 41 = eqb-true (length (a .words .now)) 41 (both (eqb (length (a .words .now)) 41) (nameSteps (a .steps .now)) k .0) in (
       r .run-steps .ensures .0 ∙ run-told (a .words .now) (a .steps .now) (a .answers .now) k,
       (
-        run-done (a .words .now) (a .steps .now) (a .answers .now) k _ (record { count = search needs; below = λ j. omega (arith, y .slice-known3 .given j) })
+        run-done (a .words .now) (a .steps .now) (a .answers .now) k _ (record { count = search (needs, w); below = λ j. omega (arith, y .slice-known3 .given j) })
             (r .run-steps .ensures .1 .0),
         r .run-steps .ensures .1 .1 ∙ run-answered (a .words .now) (a .steps .now) (a .answers .now) k,
       ),

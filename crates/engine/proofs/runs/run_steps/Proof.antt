@@ -3,8 +3,9 @@ use mathlib.Core.Path.{_≡_, refl, sym, ap, _∙_}
 use mathlib.Core.Bool.{true, _||_}
 use native.Mathlib.Omega.{arith}
 use lib.ListN.{length, getD, drop}
-use lib.Seq.{sets}
+use lib.Seq.{sets, length-sets}
 use borrow.Author.Needs.{needs}
+use Rattle.steps.specs.Number.{answerNumbers}
 use Rattle.steps.specs.Decode.{decoded, stepsOf, nameSteps}
 use Rattle.steps.proofs.NumberLaws.{Named, named}
 use Rattle.state.specs.Hold.{canHold}
@@ -17,7 +18,7 @@ use Rattle.engine.proofs.runs.run_steps.Tie as tie
 
 abbrev Inv-loop : tie.InvT-loop
 Inv-loop words₀ steps answers₀ held₀ remap₀ i₀ words answers held remap i =
-    (i ≤ length steps) × (length words ≡ 41) × (nameSteps (drop i steps) ≡ true) × (held ≡ canHold (stateOf words))
+    (i ≤ length steps) × (length words ≡ 41) × (length answers ≡ length answers₀) × (nameSteps (drop i steps) ≡ true) × (held ≡ canHold (stateOf words))
     × (afterAll (stateOf words) (stepsOf (drop i steps)) ≡ afterAll (stateOf words₀) (stepsOf steps))
     × ((remap || anyRemaps (stateOf words) (stepsOf (drop i steps))) ≡ anyRemaps (stateOf words₀) (stepsOf steps))
     × (sets answers i (answersOf (stateOf words) (stepsOf (drop i steps))) ≡ sets answers₀ 0 (answersOf (stateOf words₀) (stepsOf steps)))
@@ -32,11 +33,11 @@ loop-holds : tie.Need-loop-holds Inv-loop μ-loop
 loop-holds c =
     let b = c .before .before .before .before .before .before in
     let p = b .pre in
-    (search needs, p .0, p .1, c .can-hold .ensures ∙ ap canHold (c .before .load .ensures ∙ all-loaded (b .args .words .now) (p .0)), refl, refl, refl)
+    (search needs, p .0, refl, p .1, c .can-hold .ensures ∙ ap canHold (c .before .load .ensures ∙ all-loaded (b .args .words .now) (p .0)), refl, refl, refl)
 
 -- the step at i
 at : (c : tie.In-loop Inv-loop μ-loop) → Named (start (c .before) .args .steps .now) (c .before .loop .i)
-at c = named (start (c .before) .args .steps .now) (c .before .loop .i) (c .loop-test .taken) (c .before .loop .inv .2)
+at c = named (start (c .before) .args .steps .now) (c .before .loop .i) (c .loop-test .taken) (c .before .loop .inv .3)
 
 -- a slice's length is a number of 64 bits
 short : (c : tie.In-loop Inv-loop μ-loop) → length (start (c .before) .args .steps .now) < 2 ^ 64
@@ -97,14 +98,15 @@ loop-again c =
     let n = at i in
     let e = t .take-named .ensures .0 in
     let f = t .take-named .ensures .1 in
-    let h = l .inv .3 in (
+    let h = l .inv .4 in (
       n .room,
       search needs,
+      ap length (p .put-answer .ensures) ∙ length-sets (l .answers) (l .i) (answerNumbers (t .take-named .result .answer)) ∙ l .inv .2,
       n .rest,
       held-next v (l .i) (l .held) s _ (t .take-named .result) n h e f,
-      state-next v (l .i) (l .held) s _ (t .take-named .result) n h e f ∙ l .inv .4,
-      remap-next v (l .i) (l .held) s _ (t .take-named .result) n h e f (l .remap) ∙ l .inv .5,
-      answers-next v (l .i) (l .held) s _ (t .take-named .result) n h e f (l .answers) _ (p .put-answer .ensures) ∙ l .inv .6,
+      state-next v (l .i) (l .held) s _ (t .take-named .result) n h e f ∙ l .inv .5,
+      remap-next v (l .i) (l .held) s _ (t .take-named .result) n h e f (l .remap) ∙ l .inv .6,
+      answers-next v (l .i) (l .held) s _ (t .take-named .result) n h e f (l .answers) _ (p .put-answer .ensures) ∙ l .inv .7,
     )
 
 returns : tie.Need-returns Inv-loop μ-loop
@@ -113,8 +115,8 @@ returns c =
     let v = start (c .before) .args .steps .now in
     let d = c .loop-test .left in
     let s = stateOf (l .words) in (
-      remap-end v (l .i) s d (l .remap) ∙ l .inv .5,
-      (state-end v (l .i) s d ∙ l .inv .4, answers-end v (l .i) s d (l .answers) ∙ l .inv .6),
+      remap-end v (l .i) s d (l .remap) ∙ l .inv .6,
+      (state-end v (l .i) s d ∙ l .inv .5, answers-end v (l .i) s d (l .answers) ∙ l .inv .7),
     )
 
 pub run-steps-spec : {M : Type 1} → statement M
@@ -140,5 +142,5 @@ run-steps-spec =
     loop-less
     loop-again
     (λ c. search needs)
-    (λ c. search needs)
+    (λ c. c .before .loop .inv .2)
     returns)
