@@ -1,0 +1,48 @@
+use Rattle.lines.proofs.Reading.{line-missing, line-read}
+use Rattle.lines.specs.Fields.{digitsAt}
+use Prim.Native.Nat.{_+_, _≤_}
+use mathlib.Core.Path.{_∙_, sym}
+use native.Mathlib.Omega.{arith}
+use borrow.Author.Tests.{leb-true, not-false}
+use borrow.Author.Needs.{needs}
+use lib.ListN.{length}
+use Rattle.lines.proofs.read_line.Statement.{statement}
+use Rattle.lines.proofs.read_line.Tie as tie
+
+room : (c : tie.Else1) →
+    let a = c .before .before .before .before .args in
+    a .place + (length (a .key .now) + 17) ≤ length (a .text .now)
+room c =
+    let a = c .before .before .before .before .args in
+    let h = c .before .has-room in
+    leb-true (a .place + (length (a .key .now) + 17)) (length (a .text .now)) (sym (h .ensures) ∙ not-false (h .result) (c .if1 .left))
+
+returns : tie.Need-returns
+returns c =
+    let h = c .before in
+    let a = h .before .before .before .args in
+    line-missing (a .text .now) (a .key .now) (a .place) (h .has-room .result) (h .has-room .ensures) (c .if1 .taken)
+
+returns-2 : tie.Need-returns-2
+unfolding digitsAt
+returns-2 c =
+    let k = c .before .before in
+    let d = k .before in
+    let h = d .before .before in
+    let a = h .before .before .before .args in
+    rw (k .has-key .ensures, d .read-digits .ensures)
+    (line-read (a .text .now) (a .key .now) (a .place) (h .has-room .result) (h .has-room .ensures) (d .before .if1 .left))
+
+pub read-line-spec : {M : Type 1} → statement M
+read-line-spec =
+    tie.close
+    (tie.spec
+    (λ c. search needs)
+    (λ c κs. search needs)
+    returns
+    (λ c. omega (arith, room c))
+    (λ c κs. omega (arith, room c))
+    (λ c κs. omega (arith, room (c .before)))
+    (λ c. omega (arith, room (c .before .before .before)))
+    (λ c. omega (arith, room (c .before .before .before .before)))
+    returns-2)
