@@ -21,6 +21,17 @@ pub record Words (n : ℕ) (ws : List ℕ) : Type 0 where
   pub count : length ws ≡ n
   pub below : (i : ℕ) → getD ws i 0 < 2 ^ 64
 
+-- ---- a place of a list
+
+pub from-place : (t : List ℕ) (p : ℕ) → p < length t → drop p t ≡ getD t p 0 ∷ drop (p + 1) t
+from-place t p h = drop-cons t p 0 h ∙ ap (λ (k : ℕ). getD t p 0 ∷ drop k t) (sym (add-one p))
+
+pub at-place : (t s : List ℕ) (p x : ℕ) → drop p t ≡ x ∷ s → (getD t p 0 ≡ x) × (drop (p + 1) t ≡ s)
+at-place t s p x e = (
+  ap (λ (k : ℕ). getD t k 0) (sym (add-zero p)) ∙ sym (getD-drop p t 0 0) ∙ ap (λ (l : List ℕ). getD l 0 0) e,
+  sym (drop-drop 1 p t) ∙ ap (drop 1) e,
+)
+
 -- ---- one word
 
 -- a digit read is the digit written
@@ -30,16 +41,6 @@ digit-back d h = go (ltb d 10) refl
     go : (b : Bool) → ltb d 10 ≡ b → digitValue (cond b (48 + d) (87 + d)) ≡ d
     go true e = let l : 48 + d < 58 = omega (arith, ltb-true d 10 e) in rw (lt-ltb (48 + d) 58 l) (omega (arith, ltb-true d 10 e))
     go false e = let l : 58 ≤ 87 + d = omega (arith, ltb-false d 10 e) in rw (le-ltb (87 + d) 58 l) (omega (arith, ltb-false d 10 e))
-
--- a list from place p on: the number there and what stands behind
-pub from-place : (t : List ℕ) (p : ℕ) → p < length t → drop p t ≡ getD t p 0 ∷ drop (p + 1) t
-from-place t p h = drop-cons t p 0 h ∙ ap (λ (k : ℕ). getD t p 0 ∷ drop k t) (sym (add-one p))
-
-pub at-place : (t s : List ℕ) (p x : ℕ) → drop p t ≡ x ∷ s → (getD t p 0 ≡ x) × (drop (p + 1) t ≡ s)
-at-place t s p x e = (
-  ap (λ (k : ℕ). getD t k 0) (sym (add-zero p)) ∙ sym (getD-drop p t 0 0) ∙ ap (λ (l : List ℕ). getD l 0 0) e,
-  sym (drop-drop 1 p t) ∙ ap (drop 1) e,
-)
 
 -- the upper part of a number, one digit longer
 pub upper-part : (w n : ℕ) → w / 2 ^ (4 * suc n) ≡ w / 2 ^ (4 * n) / 16

@@ -2,11 +2,11 @@
 use Prim.Native.Nat.{ℕ, zero, suc, _+_, _*_, _/_, _%_, _^_, _≤_, _<_}
 use Prim.Native.String.{String}
 use mathlib.Core.Path.{_≡_, refl, sym, ap, _∙_}
-use mathlib.Core.Bool.{Bool, true, false, not, _&&_, and-true, and-assoc}
+use mathlib.Core.Bool.{Bool, true, false, _&&_, and-true, and-assoc}
 use mathlib.Core.List.{List, [], _∷_, _++_, map}
 use native.Mathlib.Omega.{arith}
 use native.Mathlib.Nat.{add-zero, div-one}
-use borrow.Author.Tests.{le-leb, not-true, not-false}
+use borrow.Author.Tests.{le-leb}
 use lib.Dec.{eqb}
 use lib.ListN.{length, getD, drop, drop-of-length-le, length-append}
 use Rattle.bits.specs.Same.{sameList}
@@ -76,17 +76,12 @@ and-four : (a b c d : Bool) → (a && (b && (c && d))) ≡ (((a && b) && c) && d
 and-four true b c d = sym (and-assoc b c d)
 and-four false b c d = refl
 
-module _ (t key : List ℕ) (p : ℕ) (r : Bool) (room : r ≡ hasRoom (length t) p (length key + 17)) where
-  pub line-missing : not r ≡ true → record { ok = false; word = 0 } ≡ lineAt t p key
-  unfolding lineAt
-  line-missing h = let e : hasRoom (length t) p (length key + 17) ≡ false = sym room ∙ not-true r h in rw e
-
-  pub line-read : not r ≡ false → lineWithin t p key ≡ lineAt t p key
-  unfolding lineAt
-  line-read h = let e : hasRoom (length t) p (length key + 17) ≡ true = sym room ∙ not-false r h in rw e
+pub line-missing : (t key : List ℕ) (p : ℕ) → hasRoom (length t) p (length key + 17) ≡ false → record { ok = false; word = 0 } ≡ lineAt t p key
+unfolding lineAt
+line-missing t key p e = rw e
 
 module _ (t key : List ℕ) (p : ℕ) (room : p + (length key + 17) ≤ length t) where
-  line-within : lineAt t p key ≡ lineWithin t p key
+  pub line-within : lineAt t p key ≡ lineWithin t p key
   unfolding lineAt
   line-within = rw (le-leb (p + (length key + 17)) (length t) room)
 

@@ -1,25 +1,23 @@
 -- One word at a place, and the loop over places.
 use Prim.Native.Nat.{ℕ, _+_, _≤_, _<_}
-use mathlib.Core.Path.{_≡_, sym, _∙_}
-use mathlib.Core.Bool.{Bool, true, false, not}
+use mathlib.Core.Path.{_≡_}
+use mathlib.Core.Bool.{true, false}
 use mathlib.Core.List.{List}
 use native.Mathlib.Numerals.{add-one}
-use borrow.Author.Tests.{not-true, not-false}
 use lib.ListN.{length, getD, drop, drop-of-length-le}
 use lib.Seq.{sets, drop-cons}
 use Rattle.lines.specs.Lines.{hexDigits}
 use Rattle.lines.specs.Places.{hasRoom, withWord, withWords}
 
--- ---- one word, where r tells whether its digits have room
+-- ---- one word
 
-module _ (t : List ℕ) (p : ℕ) (r : Bool) (room : r ≡ hasRoom (length t) p 16) where
-  pub word-left : (w : ℕ) → not r ≡ true → t ≡ withWord p w t
-  unfolding withWord
-  word-left w h = let e : hasRoom (length t) p 16 ≡ false = sym room ∙ not-true r h in rw e
+pub word-left : (t : List ℕ) (p w : ℕ) → hasRoom (length t) p 16 ≡ false → t ≡ withWord p w t
+unfolding withWord
+word-left t p w e = rw e
 
-  pub word-written : (w : ℕ) (u : List ℕ) → not r ≡ false → u ≡ sets t p (hexDigits 16 w) → u ≡ withWord p w t
-  unfolding withWord
-  word-written w u h d = let e : hasRoom (length t) p 16 ≡ true = sym room ∙ not-false r h in rw e d
+pub word-written : (t u : List ℕ) (p w : ℕ) → hasRoom (length t) p 16 ≡ true → u ≡ sets t p (hexDigits 16 w) → u ≡ withWord p w t
+unfolding withWord
+word-written t u p w e d = rw e d
 
 -- ---- a word at each place
 

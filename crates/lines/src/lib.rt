@@ -115,6 +115,7 @@ fn read_digits(text: &[u8], place: usize) -> Field
 }
 
 // Reads the line from a place on, whose key comes with its `=`. A line that does not fit into the text is not ok, and its word is 0.
+// The key is compared first: the other way round the sixteen digits are no longer read at once.
 pub fn read_line(text: &[u8], place: usize, key: &[u8]) -> Field
     ensures { λ r. ⌜ r ≡ lineAt (now (text .entry)) place (now (key .entry)) ⌝ }
 {
@@ -122,8 +123,9 @@ pub fn read_line(text: &[u8], place: usize, key: &[u8]) -> Field
         return Field { ok: false, word: 0 };
     }
     let start = place + key.len();
+    let keyed = has_key(text, place, key);
     let digits = read_digits(text, start);
-    let ok = has_key(text, place, key) & digits.ok & (text[start + 16] == b'\n');
+    let ok = keyed & digits.ok & (text[start + 16] == b'\n');
     Field {
         ok,
         word: digits.word,

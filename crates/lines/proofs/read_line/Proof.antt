@@ -1,9 +1,9 @@
-use Rattle.lines.proofs.Reading.{line-missing, line-read}
+use Rattle.lines.proofs.Reading.{line-missing, line-within}
 use Rattle.lines.specs.Fields.{digitsAt}
 use Prim.Native.Nat.{_+_, _≤_}
 use mathlib.Core.Path.{_∙_, sym}
 use native.Mathlib.Omega.{arith}
-use borrow.Author.Tests.{leb-true, not-false}
+use borrow.Author.Tests.{leb-true, not-true, not-false}
 use borrow.Author.Needs.{needs}
 use lib.ListN.{length}
 use Rattle.lines.proofs.read_line.Statement.{statement}
@@ -19,19 +19,17 @@ room c =
 
 returns : tie.Need-returns
 returns c =
-    let h = c .before in
-    let a = h .before .before .before .args in
-    line-missing (a .text .now) (a .key .now) (a .place) (h .has-room .result) (h .has-room .ensures) (c .if1 .taken)
+    let a = c .before .before .before .before .args in
+    let h = c .before .has-room in
+    line-missing (a .text .now) (a .key .now) (a .place) (sym (h .ensures) ∙ not-true (h .result) (c .if1 .taken))
 
 returns-2 : tie.Need-returns-2
 unfolding digitsAt
 returns-2 c =
-    let k = c .before .before in
-    let d = k .before in
-    let h = d .before .before in
-    let a = h .before .before .before .args in
-    rw (k .has-key .ensures, d .read-digits .ensures)
-    (line-read (a .text .now) (a .key .now) (a .place) (h .has-room .result) (h .has-room .ensures) (d .before .if1 .left))
+    let d = c .before .before in
+    let k = d .before in
+    let a = k .before .before .before .before .before .args in
+    rw (k .has-key .ensures, d .read-digits .ensures) (sym (line-within (a .text .now) (a .key .now) (a .place) (room (k .before))))
 
 pub read-line-spec : {M : Type 1} → statement M
 read-line-spec =
