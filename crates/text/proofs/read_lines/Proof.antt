@@ -34,21 +34,6 @@ ordered c =
 loop-holds : tie.Need-loop-holds Inv-loop μ-loop
 loop-holds c = (refl, c .before .before .before .before .pre .0, refl, refl)
 
-sub-read-line : tie.Need-sub-read-line Inv-loop μ-loop
-sub-read-line c = omega (arith, ordered (c .before))
-
-part-read-line-start : tie.Need-part-read-line-start Inv-loop μ-loop
-part-read-line-start c = omega (arith, ordered (c .before))
-
-part-read-line-end : tie.Need-part-read-line-end Inv-loop μ-loop
-part-read-line-end c = omega (arith, ordered (c .before))
-
-slice-write-words : tie.Need-slice-write-words Inv-loop μ-loop
-slice-write-words c = omega arith
-
-add-start : tie.Need-add-start Inv-loop μ-loop
-add-start c = omega (arith, ordered (c .before .before .before .before))
-
 loop-again : tie.Need-loop-again Inv-loop μ-loop
 loop-again c =
     let r = c .before in
@@ -75,13 +60,13 @@ read-lines-spec =
     loop-holds
     (λ c. search needs)
     (λ c. search needs)
-    sub-read-line
-    part-read-line-start
-    part-read-line-end
+    (λ c. omega (arith, ordered (c .before)))
+    (λ c. omega (arith, ordered (c .before)))
+    (λ c. omega (arith, ordered (c .before)))
     (λ c κs. search needs)
     (λ c. search needs)
-    slice-write-words
-    add-start
+    (λ c. search needs)
+    (λ c. omega (arith, ordered (c .before .before .before .before)))
     (λ c. search needs)
     (λ c. search needs)
     loop-again
