@@ -1,15 +1,14 @@
-use Rattle.trace.proofs.Reading.{digits-start, digits-more, digits-all}
-use Rattle.trace.specs.Reader.{areDigits, digitsAt}
+use Rattle.lines.specs.Fields.{areDigits, digitsAt}
 use Rattle.lines.specs.Lines.{hexDigit, digitValue, numberAt}
-use Rattle.lines.proofs.Digits.{number-start, number-more, number-all, number-fits, value-below}
+use Rattle.lines.proofs.Digits.{read-start, read-more, read-all, number-fits, value-below}
 use lib.ListN.{getD}
 use Prim.Native.Nat.{_+_, _-_, _*_, _%_, _^_, _≤_, _<_}
 use mathlib.Core.Bool.{_&&_}
-use mathlib.Core.Path.{_≡_, sym, ap, _∙_}
+use mathlib.Core.Path.{_≡_, ap, _∙_}
 use native.Mathlib.Omega.{arith}
 use borrow.Author.Needs.{needs}
-use Rattle.trace.proofs.reader.read_digits.Statement.{statement}
-use Rattle.trace.proofs.reader.read_digits.Tie as tie
+use Rattle.lines.proofs.read_digits.Statement.{statement}
+use Rattle.lines.proofs.read_digits.Tie as tie
 
 abbrev Inv-loop : tie.InvT-loop
 Inv-loop text place ok₀ word₀ j₀ ok word j =
@@ -21,9 +20,8 @@ abbrev μ-loop : tie.MeasureT-loop
 
 loop-holds : tie.Need-loop-holds Inv-loop μ-loop
 loop-holds c =
-    let t = c .before .args .text .now in
-    let p = c .before .args .place in
-    (omega arith, omega arith, number-start t p, digits-start 16 t p)
+    let r = read-start (c .before .args .text .now) (c .before .args .place) in
+    (omega arith, omega arith, r .0, r .1)
 
 below : (c : tie.After-digit-value Inv-loop μ-loop) → c .digit-value .result < 16
 below c =
@@ -48,11 +46,12 @@ loop-again c =
     let t = a .text .now in
     let v = c .before .digit-value in
     let e : v .result % 16 ≡ v .result = omega (arith, below (c .before)) in
+    let m = read-more t (a .place) (l .word) (l .ok) (l .j) (omega arith) in
     let d : c .hex-digit .result ≡ hexDigit (digitValue (getD t (a .place + l .j) 0)) = c .hex-digit .ensures ∙ ap hexDigit (e ∙ v .ensures) in (
       omega arith,
       number-fits (l .j) (l .word) (v .result) (omega arith) (l .inv .1) (below (c .before)) .0,
-      l .inv .2 ∙ number-more t (l .word) (a .place) (l .j) (omega arith) ∙ rw (← v .ensures),
-      l .inv .3 ∙ digits-more (l .ok) t (a .place) (l .j) (omega arith) ∙ rw (← d),
+      l .inv .2 ∙ m .0 ∙ rw (← v .ensures),
+      l .inv .3 ∙ m .1 ∙ rw (← d),
     )
 
 returns : tie.Need-returns Inv-loop μ-loop
@@ -60,10 +59,8 @@ unfolding digitsAt
 returns c =
     let l = c .before .loop in
     let a = c .before .before .before .args in
-    let t = a .text .now in
-    let w : l .word ≡ numberAt 16 0 t (a .place) = sym (l .inv .2 ∙ number-all t (l .word) (a .place + l .j) (l .j) (c .loop-test .left)) in
-    let o : l .ok ≡ areDigits 16 t (a .place) = sym (l .inv .3 ∙ digits-all (l .ok) t (a .place + l .j) (l .j) (c .loop-test .left)) in
-    rw (w, o)
+    let e = read-all (a .text .now) (a .place) (l .word) (l .ok) (l .j) (c .loop-test .left) in
+    rw (l .inv .2 ∙ e .0, l .inv .3 ∙ e .1)
 
 pub read-digits-spec : {M : Type 1} → statement M
 read-digits-spec =
