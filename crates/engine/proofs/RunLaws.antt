@@ -139,7 +139,7 @@ abbrev pub runTest : List ℕ → List ℕ → Bool
 runTest w steps = eqb (length w) 41 && nameSteps steps
 
 module _ (w steps answers : List ℕ) where
-  pub unrun : runTest w steps ≡ false → ran w steps answers ≡ record { remap = false; words = w; answers = answers }
+  pub unrun : runTest w steps ≡ false → ran w steps answers ≡ record { remap = false; words = w; answers = answers; state = stateOf w }
   unfolding ran
   unrun e = rw e
 
@@ -155,3 +155,7 @@ module _ (w steps answers : List ℕ) where
   pub run-answered : runTest w steps ≡ true → sets answers 0 (answersOf (stateOf w) (stepsOf steps)) ≡ ran w steps answers .answers
   unfolding ran
   run-answered e = rw e
+
+  pub run-state : runTest w steps ≡ true → afterAll (stateOf w) (stepsOf steps) ≡ ran w steps answers .state
+  unfolding ran
+  run-state e = rw e

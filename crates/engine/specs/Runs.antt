@@ -36,11 +36,12 @@ anyRemaps s steps = anyStep stateAfter remaps s steps
 
 -- ---- on slices
 
--- what a run leaves: whether some step asks for a fresh map, the words of the hart, and the answers from the front of their slice
+-- what a run leaves: whether some step asks for a fresh map, the words of the hart and their state, and the answers from the front of their slice
 pub record Ran : Type 0 where
   pub remap : Bool
   pub words : List ℕ
   pub answers : List ℕ
+  pub state : State
 
 -- the words are 41, and each three numbers name a step; else nothing is done
 unfoldable pub ran : List ℕ → List ℕ → List ℕ → Ran
@@ -50,5 +51,6 @@ ran words steps answers =
       remap = anyRemaps (stateOf words) (stepsOf steps);
       words = wordsOf (afterAll (stateOf words) (stepsOf steps));
       answers = sets answers 0 (answersOf (stateOf words) (stepsOf steps));
+      state = afterAll (stateOf words) (stepsOf steps);
     })
-    (record { remap = false; words = words; answers = answers })
+    (record { remap = false; words = words; answers = answers; state = stateOf words })

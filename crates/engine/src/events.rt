@@ -29,10 +29,19 @@ pub(crate) fn step_event(words: &mut [u64], event: Event) -> Answer
 {
     match event {
         Event::Raise(cause, tval) => {
-            leave(trap::enter::raise_step(load_registers(words), cause, tval), words)
+            leave(
+                trap::enter::raise_step(load_registers(words), cause, tval),
+                words,
+            )
         }
-        Event::Lines(lines) => leave(trap::interrupt::lines_step(load_registers(words), lines), words),
-        Event::TakeInterrupt => leave(trap::interrupt::take_interrupt(load_registers(words)), words),
+        Event::Lines(lines) => leave(
+            trap::interrupt::lines_step(load_registers(words), lines),
+            words,
+        ),
+        Event::TakeInterrupt => leave(
+            trap::interrupt::take_interrupt(load_registers(words)),
+            words,
+        ),
         Event::Mret => leave(
             trap::returns::return_from(Level::Machine, load_registers(words)),
             words,
@@ -46,7 +55,10 @@ pub(crate) fn step_event(words: &mut [u64], event: Event) -> Answer
         Event::Ebreak => leave(trap::enter::breakpoint(load_registers(words)), words),
         Event::Advance(target) => leave(trap::time::advance(load_registers(words), target), words),
         Event::Elapsed(cycles, retired) => {
-            leave(trap::time::elapse(load_registers(words), cycles, retired), words)
+            leave(
+                trap::time::elapse(load_registers(words), cycles, retired),
+                words,
+            )
         }
     }
 }

@@ -108,6 +108,7 @@ pub fn run(words: &mut [u64], steps: &[u64], answers: &mut [u64]) -> bool
     ensures { λ r. ⌜ r ≡ ran (now (words .entry)) (now (steps .entry)) (now (answers .entry)) .remap ⌝ }
     ensures { λ _. ⌜ now (words .exit) ≡ ran (now (words .entry)) (now (steps .entry)) (now (answers .entry)) .words ⌝ }
     ensures { λ _. ⌜ now (answers .exit) ≡ ran (now (words .entry)) (now (steps .entry)) (now (answers .entry)) .answers ⌝ }
+    ensures { λ _. ⌜ stateOf (now (words .exit)) ≡ ran (now (words .entry)) (now (steps .entry)) (now (answers .entry)) .state ⌝ }
 {
     if !((words.len() == 41) & steps::name_steps(steps)) {
         return false;

@@ -8,7 +8,7 @@ use borrow.Author.Needs.{needs}
 use Rattle.bits.proofs.Conjunction.{both}
 use Rattle.steps.specs.Decode.{nameSteps}
 use Rattle.engine.specs.Runs.{Ran}
-use Rattle.engine.proofs.RunLaws.{runTest, unrun, run-done, run-told, run-answered}
+use Rattle.engine.proofs.RunLaws.{runTest, unrun, run-done, run-told, run-answered, run-state}
 use Rattle.engine.proofs.runs.run.Statement.{statement}
 use Rattle.engine.proofs.runs.run.Tie as tie
 
@@ -24,7 +24,7 @@ returns c =
     let n = c .before in
     let a = n .before .before .before .before .args in
     let e = sym (unrun (a .words .now) (a .steps .now) (a .answers .now) (sym (tested n) ∙ not-true _ (c .if1 .taken))) in
-    (ap (λ (r : Ran). r .remap) e, (ap (λ (r : Ran). r .words) e, ap (λ (r : Ran). r .answers) e))
+    (ap (λ (r : Ran). r .remap) e, (ap (λ (r : Ran). r .words) e, (ap (λ (r : Ran). r .answers) e, ap (λ (r : Ran). r .state) e)))
 
 run-steps-requires : tie.Need-run-steps-requires
 run-steps-requires c κs =
@@ -47,7 +47,10 @@ returns-2 c =
       (
         run-done (a .words .now) (a .steps .now) (a .answers .now) k _ (record { count = search (needs, w); below = λ j. omega (arith, y .slice-known3 .given j) })
             (r .run-steps .ensures .1 .0),
-        r .run-steps .ensures .1 .1 ∙ run-answered (a .words .now) (a .steps .now) (a .answers .now) k,
+        (
+          r .run-steps .ensures .1 .1 ∙ run-answered (a .words .now) (a .steps .now) (a .answers .now) k,
+          r .run-steps .ensures .1 .0 ∙ run-state (a .words .now) (a .steps .now) (a .answers .now) k,
+        ),
       ),
     )
 
