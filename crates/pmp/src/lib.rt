@@ -1,11 +1,14 @@
 // Physical memory protection: what the sixteen entries say of an access, byte by byte.
 mod entry;
+mod modes;
 mod rule;
 mod search;
 
 pub use entry::entry_span;
 pub use entry::is_locked;
 pub use entry::trailing_ones;
+pub use modes::is_mode;
+pub use modes::mode_of;
 pub use rule::check;
 pub use rule::entry_decides;
 pub use rule::fault_cause;

@@ -5,6 +5,7 @@ use mathlib.Core.Bool.{true, not}
 use lib.Bits.{bitAnd}
 use lib.Dec.{eqb, ltb}
 use Rattle.bits.specs.Mask.{within}
+use Rattle.pmp.specs.Number.{isMode}
 use Rattle.bits.proofs.Conjunction.{both, join}
 use Rattle.bits.proofs.BitSolve.{E, lit, and, or}
 use Rattle.steps.specs.declared.Level.{Level}
@@ -14,7 +15,7 @@ use Rattle.registers.specs.declared.Interrupts.{Interrupts}
 use Rattle.registers.specs.declared.Registers.{Registers}
 use Rattle.registers.specs.Masks.{mstatusMask, sxlUxl, medelegMask, midelegMask, mieMask, mipMask, linesMask, countersMask, causeMask}
 use Rattle.registers.specs.Status.{ppMask, mppTwo}
-use Rattle.registers.specs.Hold.{isMode, aligned, keptStatus, statusHoldable, interruptsHoldable, levelHoldable, registersHoldable, resetRegisters}
+use Rattle.registers.specs.Hold.{aligned, keptStatus, statusHoldable, interruptsHoldable, levelHoldable, registersHoldable, resetRegisters}
 use Rattle.registers.specs.Update.{withFlow, withMedeleg, withInterrupts, withCounters, levelOf, withLevel}
 
 -- mstatus = 0xA00000000 plus bits within 0x7A19AA; MPP not 2

@@ -1,19 +1,16 @@
 -- 01, "What a hart can hold".
 use Prim.Native.Nat.{ℕ, _%_}
-use mathlib.Core.Bool.{Bool, not, _&&_, _||_}
+use mathlib.Core.Bool.{Bool, not, _&&_}
 use lib.Bits.{bitAnd, bitOr}
 use lib.Dec.{eqb, ltb}
 use Rattle.bits.specs.Mask.{within}
+use Rattle.pmp.specs.Number.{isMode}
 use Rattle.steps.specs.declared.Level.the-variants.{Machine}
 use Rattle.registers.specs.declared.LevelRegisters.{LevelRegisters}
 use Rattle.registers.specs.declared.Interrupts.{Interrupts}
 use Rattle.registers.specs.declared.Registers.{Registers}
 use Rattle.registers.specs.Masks.{mstatusMask, sxlUxl, medelegMask, midelegMask, mieMask, mipMask, linesMask, countersMask, causeMask}
 use Rattle.registers.specs.Status.{ppMask, mppTwo}
-
--- mode 0, 1 or 3
-abbrev pub isMode : ℕ → Bool
-isMode mode = eqb mode 0 || (eqb mode 1 || eqb mode 3)
 
 -- pc, mepc, sepc multiples of 4
 abbrev pub aligned : ℕ → Bool

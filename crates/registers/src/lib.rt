@@ -7,7 +7,6 @@ pub mod masks;
 mod status;
 
 pub use effective::effective_mode;
-pub use effective::mode_of;
 pub use hold::registers_can_hold;
 pub use hold::reset_registers;
 pub use level::level_registers;

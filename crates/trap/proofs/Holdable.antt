@@ -20,7 +20,8 @@ use Rattle.steps.specs.declared.Event.the-variants.{Raise, Lines, TakeInterrupt
 use Rattle.steps.specs.Number.{levelNumber, causeNumber}
 use Rattle.registers.specs.declared.Registers.{Registers}
 use Rattle.registers.specs.Masks.{linesMask, causeMask}
-use Rattle.registers.specs.Hold.{isMode, aligned, registersHoldable}
+use Rattle.pmp.specs.Number.{isMode}
+use Rattle.registers.specs.Hold.{aligned, registersHoldable}
 use Rattle.registers.specs.Update.{levelOf, withPc}
 use Rattle.registers.proofs.Held.{held, level-held, level-hold, level-of-held, flow-kept, interrupts-kept, counters-kept, level-kept}
 use Rattle.trap.specs.declared.Choice.{Choice}

@@ -14,7 +14,8 @@ use Rattle.bits.proofs.BitLaws.{and-shl}
 use Rattle.bits.proofs.BitSolve.{E, lit, var, and, or, G, eq, imp, eval, check, solve}
 use Rattle.steps.specs.declared.Level.{Level}
 use Rattle.steps.specs.declared.Level.the-variants.{Supervisor, Machine}
-use Rattle.registers.specs.Hold.{isMode, keptStatus, statusHoldable}
+use Rattle.pmp.specs.Number.{isMode}
+use Rattle.registers.specs.Hold.{keptStatus, statusHoldable}
 use Rattle.registers.specs.Status.{ieMask, pieMask, ppMask, ppUnit, ppModes, mppTwo, previousMode, mprvMask}
 use Rattle.registers.proofs.Held.{status-held, keptE}
 use Rattle.trap.specs.Enter.{enteredStatus}

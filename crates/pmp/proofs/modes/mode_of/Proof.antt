@@ -1,6 +1,6 @@
 use borrow.Author.Tests.{ne-eqb}
-use Rattle.registers.proofs.effective.mode_of.Statement.{statement}
-use Rattle.registers.proofs.effective.mode_of.Tie as tie
+use Rattle.pmp.proofs.modes.mode_of.Statement.{statement}
+use Rattle.pmp.proofs.modes.mode_of.Tie as tie
 
 returns : tie.Need-returns
 returns c = rw (c .match .keys1)
