@@ -7,6 +7,8 @@ mod query;
 mod saved;
 mod stepping;
 
+pub use stepping::map_for;
+
 // The hart struct, on which the steps are methods. Its state may be one that no hart can hold, and is then refused.
 pub struct Hart {
     pub state: State,

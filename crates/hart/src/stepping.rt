@@ -10,7 +10,7 @@ ghost use Rattle.state.specs.Hold.{canHold};
 ghost use Rattle.hart.specs.Steps.{mapFor, resetMapped, stepped};
 
 // The map of protection registers.
-pub(crate) fn map_for(pmp: Pmp) -> Map
+pub fn map_for(pmp: Pmp) -> Map
     ensures { λ r. ⌜ r ≡ mapFor pmp ⌝ }
 {
     let cfgs = pmp.cfgs;

@@ -1,4 +1,4 @@
--- `capi::slices::find` meets its contract: the search in the ranges from a word on finds what the whole search does. Assumes nothing.
+-- `capi::maps::find` meets its contract: the search in the ranges from a word on finds what the whole search does. Assumes nothing.
 use Prim.Native.Nat.{_+_, _*_, _-_, _≤_}
 use mathlib.Core.Path.{_≡_, refl, _∙_}
 use mathlib.Core.Bool.{cond}
@@ -9,11 +9,11 @@ use Rattle.map.specs.declared.Found.the-variants.{At}
 use Rattle.map.specs.Lookup.{holdsByte, findRange, rangesIn}
 use Rattle.map.specs.Ranges.{range}
 use Rattle.capi.specs.MapWords.{rangesOfWords, mapOfWords}
-use Rattle.capi.proofs.SliceLaws.{find-all, find-more}
-use Rattle.capi.proofs.slices.find.Statement.{statement}
-use Rattle.capi.proofs.slices.find.Tie as tie
-use Rattle.capi.proofs.slices.find.Reads as reads
-use Rattle.capi.proofs.slices.find.Lts as lts
+use Rattle.capi.proofs.MapLaws.{find-all, find-more}
+use Rattle.capi.proofs.maps.find.Statement.{statement}
+use Rattle.capi.proofs.maps.find.Tie as tie
+use Rattle.capi.proofs.maps.find.Reads as reads
+use Rattle.capi.proofs.maps.find.Lts as lts
 
 abbrev Inv-loop : tie.InvT-loop
 Inv-loop map byte left₀ at₀ left at =

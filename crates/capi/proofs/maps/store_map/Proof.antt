@@ -1,4 +1,4 @@
--- `capi::slices::store_map` meets its contract: the words up to a range's place are the map's. Assumes nothing.
+-- `capi::maps::store_map` meets its contract: the words up to a range's place are the map's. Assumes nothing.
 use Prim.Native.Nat.{_+_, _*_, _-_, _≤_}
 use mathlib.Core.Path.{_≡_}
 use mathlib.Core.List.{_++_}
@@ -7,9 +7,9 @@ use native.Mathlib.Omega.{arith}
 use borrow.Author.Needs.{needs}
 use Rattle.map.proofs.LookupLaws.{unmapped}
 use Rattle.capi.specs.MapWords.{rangeWords, mapWords}
-use Rattle.capi.proofs.SliceLaws.{map-start, map-next, map-end}
-use Rattle.capi.proofs.slices.store_map.Statement.{statement}
-use Rattle.capi.proofs.slices.store_map.Tie as tie
+use Rattle.capi.proofs.MapLaws.{map-start, map-next, map-end}
+use Rattle.capi.proofs.maps.store_map.Statement.{statement}
+use Rattle.capi.proofs.maps.store_map.Tie as tie
 
 abbrev Inv-loop : tie.InvT-loop
 Inv-loop words₀ map k₀ at₀ words k at =

@@ -1,4 +1,4 @@
--- The turns of the loops over slices of words. Assumes nothing.
+-- The turns of the loops over a map's words. Assumes nothing.
 use Prim.Native.Nat.{ℕ, zero, suc, _+_, _*_, _-_, _≤_, _<_, min}
 use mathlib.Core.Path.{_≡_, refl, sym, ap, subst, _∙_}
 use mathlib.Core.Bool.{cond}
@@ -13,14 +13,7 @@ use Rattle.map.specs.declared.Found.{Found}
 use Rattle.map.specs.declared.Found.the-variants.{At, Nothing}
 use Rattle.map.specs.Lookup.{holdsByte, findRange, rangesIn}
 use Rattle.map.specs.Ranges.{range}
-use Rattle.registers.specs.declared.Registers.{Registers}
-use Rattle.words.specs.Arrays.{Arrays}
-use Rattle.words.specs.Words.{elements, pmpOf}
-use Rattle.words.proofs.Back.{registers-back, pmp-back}
-use Rattle.hart.specs.declared.Hart.{Hart}
-use Rattle.hart.specs.Saved.{hartOf}
 use Rattle.capi.specs.MapWords.{rangesOfWords, rangeWords, mapOfWords, mapWords}
-use Rattle.capi.specs.Calls.{hartWords, registerWords}
 use Rattle.capi.proofs.MapWords.{ranges-at}
 
 -- ---- a copy
@@ -88,31 +81,3 @@ find-more w zero at byte h l = absurd (omega arith)
 find-more w (suc left) at byte h l =
     let n : suc left - 1 ≡ left = omega arith in
     rw (n, ranges-at w at l)
-
--- ---- a hart in words
-
--- words one by one
-spelt-from : (w : List ℕ) (n i : ℕ) → length w ≡ i + n → drop i w ≡ elements n i w
-unfolding elements
-spelt-from w zero i h = let short : length w ≤ i = omega arith in drop-of-length-le w short
-spelt-from w (suc n) i h = rw (drop-cons w i 0 (omega arith), ← spelt-from w n (i + 1) (omega arith), add-one i)
-
-spelt : (w : List ℕ) → length w ≡ 41 → w ≡ elements 41 0 w
-spelt w h = spelt-from w 41 0 h
-
-written : (r : Registers) (w : List ℕ)
-    → hartOf (sets (elements 41 0 w) 0 (registerWords r)) ≡ record { registers = r; pmp = pmpOf (elements 41 0 w) }
-unfolding elements
-written r w = refl
-
--- the hart of words whose registers were written
-pub registers-put : (r : Registers) (w : List ℕ) → length w ≡ 41
-    → hartOf (sets w 0 (registerWords r)) ≡ record { registers = r; pmp = pmpOf w }
-registers-put r w h =
-    subst (λ (v : List ℕ). hartOf (sets v 0 (registerWords r)) ≡ record { registers = r; pmp = pmpOf v }) (sym (spelt w h)) (written r w)
-
--- the hart of the words of a hart
-pub words-of-hart : (h : Hart) (w : List ℕ) → Arrays (h .pmp) → w ≡ hartWords h → hartOf w ≡ h
-words-of-hart h w t e =
-    ap hartOf e
-    ∙ (λ j. record { registers = registers-back (h .registers) (h .pmp) j; pmp = pmp-back (h .registers) (h .pmp) t j })

@@ -1,11 +1,11 @@
--- `capi::slices::copy` meets its contract: the words up to i are copied. Assumes nothing.
+-- `capi::maps::copy` meets its contract: the words up to i are copied. Assumes nothing.
 use Prim.Native.Nat.{_-_, _≤_}
 use mathlib.Core.Path.{_≡_}
 use lib.ListN.{length, take}
 use borrow.Author.Needs.{needs}
-use Rattle.capi.proofs.SliceLaws.{copy-more, copy-all}
-use Rattle.capi.proofs.slices.copy.Statement.{statement}
-use Rattle.capi.proofs.slices.copy.Tie as tie
+use Rattle.capi.proofs.MapLaws.{copy-more, copy-all}
+use Rattle.capi.proofs.maps.copy.Statement.{statement}
+use Rattle.capi.proofs.maps.copy.Tie as tie
 
 abbrev Inv-loop : tie.InvT-loop
 Inv-loop from to₀ i₀ to i = (i ≤ length from) × (length to ≡ length from) × (take i to ≡ take i from)
