@@ -4,8 +4,7 @@ use borrow.Author.Needs.{needs}
 use borrow.Author.Tests.{not-true, not-false}
 use mir.Syntax.{w64}
 use mir.Val.{Fits}
-use lib.ListN.{getD, replicate}
-use Rattle.text.specs.Text.{textLength}
+use lib.ListN.{getD}
 use Rattle.claims.specs.Texts.{Typed, resaved}
 use Rattle.claims.proofs.Texts.{resaved-by}
 use Rattle.claims.proofs.saved.resaved.Statement.{statement}
@@ -25,7 +24,7 @@ returns-2 c =
     let ws = w .to-words .result in
     let below : (i : ℕ) → getD ws i 0 < 2 ^ 64 = λ i. (let f : Fits w64 (getD ws i 0) = search needs in f .fits) in
     let t : Typed (a .hart .state) = record { arrays = y .typed .ensures; words = rw (w .to-words .ensures) at below } in
-    resaved-by (a .hart) (a .map) (replicate textLength 0) t (sym (e .before .can-hold .ensures) ∙ not-false _ (e .if1 .left)) refl
+    resaved-by (a .hart) (a .map) _ t (sym (e .before .can-hold .ensures) ∙ not-false _ (e .if1 .left)) refl
     (s .save .ensures .1) (c .restore .ensures)
 
 pub resaved-spec : {M : Type 1} → statement M
