@@ -9,20 +9,23 @@ use Rattle.pmp.specs.declared.Decision.the-variants.{Fault}
 use Rattle.pmp.specs.Number.{faultCause}
 use Rattle.pmp.specs.Entry.{entrySpan}
 use Rattle.pmp.specs.Rule.{checked, none}
+use Rattle.steps.specs.declared.Event.the-variants.{Mret, TakeInterrupt, Elapsed}
+use Rattle.steps.specs.declared.Step.{Step}
+use Rattle.steps.specs.declared.Step.the-variants.{Event as EventStep}
 use Rattle.registers.specs.declared.Registers.{Registers}
-use Rattle.registers.specs.Hold.{resetRegisters, resetPmp}
+use Rattle.registers.specs.Hold.{resetRegisters}
 use Rattle.registers.specs.Update.{withStatus, withCounters}
+use Rattle.protection.specs.Hold.{resetPmp}
 use Rattle.map.specs.declared.Range.{Range}
-use Rattle.map.specs.Ranges.{range, rangesOf}
-use Rattle.hart.specs.declared.Step.{Step}
-use Rattle.hart.specs.declared.Step.the-variants.{Mret, TakeInterrupt, Elapsed}
-use Rattle.hart.specs.Effects.{judged}
+use Rattle.map.specs.Ranges.{range}
+use Rattle.map.specs.Painting.{rangesOf}
+use Rattle.engine.specs.Effects.{stepRule}
 
 pub data Setting : Type 0 where
   -- entry 0 alone: an access of `size` bytes faults in every mode, whatever its kind
   faults : (cfg addr address size : ℕ) → Setting
   -- entry 0 alone matches the bytes from first to last
-  matches : (cfg addr first last : ℕ) → Setting
+  covers : (cfg addr first last : ℕ) → Setting
   -- sixteen entries have this map
   mapped : (cfgs addrs : List ℕ) → List Range → Setting
   -- sixteen entries have this many ranges
@@ -38,10 +41,10 @@ alone x = x ∷ replicate 15 0
 abbrev pub Right : Setting → Type 0
 Right (faults cfg addr address size) =
     (mode : Mode) (access : Access) → checked (alone cfg) (alone addr) mode access address size ≡ Fault (faultCause access)
-Right (matches cfg addr first last) = entrySpan (alone cfg) (alone addr) 0 ≡ record { low = first; high = last + 1 }
+Right (covers cfg addr first last) = entrySpan (alone cfg) (alone addr) 0 ≡ record { low = first; high = last + 1 }
 Right (mapped cfgs addrs ranges) = rangesOf cfgs addrs ≡ ranges
 Right (counted cfgs addrs n) = length (rangesOf cfgs addrs) ≡ n
-Right (leaves r s register value) = register (judged (record { registers = r; pmp = resetPmp }) s .hart .registers) ≡ value
+Right (leaves r step register value) = register (stepRule (record { registers = r; pmp = resetPmp }) step .state .registers) ≡ value
 
 abbrev pub AllRight : List Setting → Type 0
 AllRight [] = Unit {0}
@@ -90,12 +93,12 @@ settings =
     -- W1
     faults na4 3 0x8 8
     -- W2 to W6
-    ∷ matches napot 0 0 7
-    ∷ matches napot 0x20000FFF 0x80000000 0x80007FFF
-    ∷ matches napot (2 ^ 52 - 1) 0 (2 ^ 55 - 1)
-    ∷ matches napot (2 ^ 53 - 1) 0 (2 ^ 56 - 1)
-    ∷ matches napot (2 ^ 54 - 1) 0 (2 ^ 56 - 1)
-    ∷ matches tor (2 ^ 54 - 1) 0 (2 ^ 56 - 5)
+    ∷ covers napot 0 0 7
+    ∷ covers napot 0x20000FFF 0x80000000 0x80007FFF
+    ∷ covers napot (2 ^ 52 - 1) 0 (2 ^ 55 - 1)
+    ∷ covers napot (2 ^ 53 - 1) 0 (2 ^ 56 - 1)
+    ∷ covers napot (2 ^ 54 - 1) 0 (2 ^ 56 - 1)
+    ∷ covers tor (2 ^ 54 - 1) 0 (2 ^ 56 - 5)
     -- W7 to W9
     ∷ mapped (resetPmp .cfgs) (resetPmp .addrs) (range 0 (2 ^ 56 - 1) none ∷ [])
     ∷ mapped (na4 ∷ napot ∷ replicate 14 0) (3 ∷ 0x1FF ∷ replicate 14 0)
@@ -103,12 +106,12 @@ settings =
     ∷ mapped (replicate 16 na4) odd (alternating 16 0)
     ∷ counted (replicate 16 na4) odd 33
     -- W10
-    ∷ leaves (withStatus resetRegisters 0xA00020880) Mret (λ r. r .mstatus) 0xA00000088
-    ∷ leaves (withStatus resetRegisters 0xA00020880) Mret (λ r. r .mode) 1
+    ∷ leaves (withStatus resetRegisters 0xA00020880) (EventStep Mret) (λ r. r .mstatus) 0xA00000088
+    ∷ leaves (withStatus resetRegisters 0xA00020880) (EventStep Mret) (λ r. r .mode) 1
     -- W11
-    ∷ leaves (interrupted 0x80000001) TakeInterrupt (λ r. r .pc) 0x8000001C
-    ∷ leaves (interrupted (2 ^ 64 - 4 + 1)) TakeInterrupt (λ r. r .pc) 0x18
+    ∷ leaves (interrupted 0x80000001) (EventStep TakeInterrupt) (λ r. r .pc) 0x8000001C
+    ∷ leaves (interrupted (2 ^ 64 - 4 + 1)) (EventStep TakeInterrupt) (λ r. r .pc) 0x18
     -- W12
-    ∷ leaves (cycling (2 ^ 64 - 1)) (Elapsed 1 0) (λ r. r .counters .mcycle) 0
-    ∷ leaves (cycling 0) (Elapsed 70000 0) (λ r. r .counters .mcycle) 70000
+    ∷ leaves (cycling (2 ^ 64 - 1)) (EventStep (Elapsed 1 0)) (λ r. r .counters .mcycle) 0
+    ∷ leaves (cycling 0) (EventStep (Elapsed 70000 0)) (λ r. r .counters .mcycle) 70000
     ∷ []

@@ -1,14 +1,14 @@
 use Prim.Native.Nat.{ℕ, _<_, _^_}
-use mathlib.Core.Path.{_≡_, refl, sym, _∙_}
+use mathlib.Core.Path.{refl, sym, _∙_}
 use borrow.Author.Needs.{needs}
 use borrow.Author.Tests.{not-true, not-false}
 use mir.Syntax.{w64}
 use mir.Val.{Fits}
-use lib.ListN.{getD, replicate}
-use Rattle.hart.specs.Texts.{Typed, resaved}
-use Rattle.hart.proofs.SavedLaws.{resaved-by}
-use Rattle.hart.proofs.Hart.resaved.Statement.{statement}
-use Rattle.hart.proofs.Hart.resaved.Tie as tie
+use lib.ListN.{getD}
+use Rattle.claims.specs.Texts.{Typed, resaved}
+use Rattle.claims.proofs.Texts.{resaved-by}
+use Rattle.claims.proofs.saved.resaved.Statement.{statement}
+use Rattle.claims.proofs.saved.resaved.Tie as tie
 
 returns : tie.Need-returns
 unfolding resaved
@@ -21,11 +21,11 @@ returns-2 c =
     let y = w .before in
     let e = y .before .before .before in
     let a = e .before .before .args in
-    let ws = w .words-of .result in
+    let ws = w .to-words .result in
     let below : (i : ℕ) → getD ws i 0 < 2 ^ 64 = λ i. (let f : Fits w64 (getD ws i 0) = search needs in f .fits) in
-    let t : Typed (a .self) = record { arrays = y .typed .ensures; words = rw (w .words-of .ensures) at below } in
-    resaved-by (a .self) (a .map) (replicate 1027 0) (s .save .last .1 .0) (c .restore .result) t
-    (sym (e .before .can-hold .ensures) ∙ not-false _ (e .if1 .left)) refl (s .save .ensures .1) (c .restore .ensures)
+    let t : Typed (a .hart .state) = record { arrays = y .typed .ensures; words = rw (w .to-words .ensures) at below } in
+    resaved-by (a .hart) (a .map) _ t (sym (e .before .can-hold .ensures) ∙ not-false _ (e .if1 .left)) refl
+    (s .save .ensures .1) (c .restore .ensures)
 
 pub resaved-spec : {M : Type 1} → statement M
 resaved-spec =
