@@ -14,12 +14,12 @@ use Rattle.io.specs.Digits.{digits, glyph, Fewest}
 use Rattle.lines.specs.Lines.{bytesOf, hexDigits}
 use Rattle.lines.specs.Places.{withWord}
 use Rattle.trace.specs.Buffers.{Put, writtenTo, writtenLength}
-use Rattle.registers.specs.declared.Level.{Level}
-use Rattle.registers.specs.declared.Level.the-variants.{Supervisor, Machine}
-use Rattle.trap.specs.declared.Trap.{Trap}
-use Rattle.trap.specs.declared.Trap.the-variants.{Exception, Interrupt}
-use Rattle.trap.specs.declared.Answer.{Answer}
-use Rattle.trap.specs.declared.Answer.the-variants.{Done, DoneValue, DoneFlag, Granted, Trapped, Refused}
+use Rattle.steps.specs.declared.Level.{Level}
+use Rattle.steps.specs.declared.Level.the-variants.{Supervisor, Machine}
+use Rattle.steps.specs.declared.Trap.{Trap}
+use Rattle.steps.specs.declared.Trap.the-variants.{Exception, Interrupt}
+use Rattle.steps.specs.declared.Answer.{Answer}
+use Rattle.steps.specs.declared.Answer.the-variants.{Done, DoneValue, DoneFlag, Granted, Trapped, Refused}
 use Rattle.trace.specs.Answers.{decimalIn, decimal, numberedLine, trapText, levelText, answerLine, brokenLine}
 
 -- ---- one text behind the other

@@ -6,9 +6,9 @@ use mathlib.Core.List.{List, [], _∷_}
 use lib.Dec.{leb, eqb}
 use lib.ListN.{getD}
 use Rattle.lines.specs.Lines.{linesOf, wordsIn, isText}
-use Rattle.hart.specs.declared.Decoded.{Decoded}
-use Rattle.hart.specs.declared.Decoded.the-variants.{Nothing}
-use Rattle.hart.specs.Decode.{decoded}
+use Rattle.steps.specs.declared.Decoded.{Decoded}
+use Rattle.steps.specs.declared.Decoded.the-variants.{Nothing}
+use Rattle.steps.specs.Decode.{decoded}
 use Rattle.trace.specs.declared.Record.{Record}
 use Rattle.trace.specs.declared.Record.the-variants.{Words, Broken}
 

@@ -8,7 +8,7 @@ use hart::Hart;
 use map::Map;
 use map::Range;
 ghost use mathlib.Core.Path.{_≡_};
-ghost use Prim.Native.Nat.{_+_, _≤_, min};
+ghost use Prim.Native.Nat.{_+_, _≤_};
 ghost use lib.ListN.{length};
 ghost use Rattle.map.specs.Lookup.{rangesIn};
 ghost use Rattle.trace.specs.Buffers.{Put, writtenTo, writtenLength};
@@ -48,17 +48,11 @@ fn put_range(range: Range, out: &mut [u8], place: usize) -> usize
     put(b"\n", out, next)
 }
 
-fn count_read(count: u64) -> usize
-    ensures { λ r. ⌜ r ≡ min count 33 ⌝ }
-{
-    if count < 33 { count as usize } else { 33 }
-}
-
 fn put_ranges(map: Map, out: &mut [u8], place: usize) -> usize
     requires { ⌜ place + 2112 ≤ length (now out) ⌝ }
     ensures { λ r. ⌜ Put (now (out .entry)) place (rangeLines (rangesIn map)) (now (out .exit)) r ⌝ }
 {
-    let n = count_read(map.count);
+    let n = map::count_read(map.count);
     let mut next = place;
     let mut k: usize = 0;
     while k < n {

@@ -1,6 +1,6 @@
 // Records of a trace.
 use crate::Record;
-use hart::Decoded;
+use steps::Decoded;
 ghost use mathlib.Core.Path.{_≡_};
 ghost use Rattle.trace.specs.Records.{readRecord, ignoresFirst, ignoresSecond, unusedAreZero, recordStep, readStep};
 
@@ -46,7 +46,7 @@ pub fn record_step(record: Record) -> Decoded
     match record {
         Record::Words(step, a, b) => {
             if unused_are_zero(step, a, b) {
-                hart::decode::decode(step, a, b)
+                steps::decode(step, a, b)
             } else {
                 Decoded::Nothing
             }

@@ -1,7 +1,7 @@
 // Lines written into a buffer.
-use registers::Level;
-use trap::Answer;
-use trap::Trap;
+use steps::Answer;
+use steps::Level;
+use steps::Trap;
 ghost use mathlib.Core.Path.{_≡_};
 ghost use mathlib.Core.List.{_++_};
 ghost use Prim.Native.Nat.{_+_, _≤_};
@@ -9,7 +9,7 @@ ghost use lib.ListN.{length};
 ghost use Rattle.lines.specs.Lines.{hexDigits};
 ghost use Rattle.trace.specs.Buffers.{Put, writtenTo, writtenLength};
 ghost use Rattle.trace.specs.Answers.{decimal, numberedLine, trapText, levelText, answerLine, brokenLine};
-ghost use Rattle.trap.specs.declared.Answer.the-variants.{DoneValue, DoneFlag, Trapped};
+ghost use Rattle.steps.specs.declared.Answer.the-variants.{DoneValue, DoneFlag, Trapped};
 
 // Each function writes from a place on and answers the place behind what it wrote.
 pub(crate) fn put(text: &[u8], out: &mut [u8], place: usize) -> usize
