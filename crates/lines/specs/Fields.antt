@@ -23,9 +23,6 @@ unfoldable pub areDigits : ℕ → List ℕ → ℕ → Bool
 areDigits zero t p = true
 areDigits (suc n) t p = eqb (getD t p 0) (hexDigit (digitValue (getD t p 0))) && areDigits n t (p + 1)
 
-unfoldable pub digitsAt : List ℕ → ℕ → Field
-digitsAt t p = record { ok = areDigits 16 t p; word = numberAt 16 0 t p }
-
 -- the text ends before
 abbrev pub noField : Field
 noField = record { ok = false; word = 0 }

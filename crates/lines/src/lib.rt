@@ -5,7 +5,7 @@ ghost use lib.ListN.{length, getD};
 ghost use lib.Seq.{sets};
 ghost use Rattle.lines.specs.Lines.{hexDigit, hexDigits, digitValue};
 ghost use Rattle.lines.specs.Places.{hasRoom, withWord, withWords};
-ghost use Rattle.lines.specs.Fields.{hasKey, digitsAt, wordAt, lineAt};
+ghost use Rattle.lines.specs.Fields.{hasKey, wordAt, lineAt};
 
 // A word that is read, and whether what was read is in the form.
 pub struct Field {
@@ -98,11 +98,13 @@ pub fn has_key(text: &[u8], place: usize, key: &[u8]) -> bool
     same
 }
 
-// The number of sixteen digits from a place on.
-fn read_digits(text: &[u8], place: usize) -> Field
-    requires { ⌜ place + 16 ≤ length (now text) ⌝ }
-    ensures { λ r. ⌜ r ≡ digitsAt (now (text .entry)) place ⌝ }
+// Reads the sixteen digits and the line feed from a place on. Where the text ends before, they are not ok, and the word is 0.
+pub fn read_word(text: &[u8], place: usize) -> Field
+    ensures { λ r. ⌜ r ≡ wordAt (now (text .entry)) place ⌝ }
 {
+    if !has_room(text.len(), place, 17) {
+        return Field { ok: false, word: 0 };
+    }
     let mut ok = true;
     let mut word: u64 = 0;
     let mut j: usize = 0;
@@ -113,22 +115,8 @@ fn read_digits(text: &[u8], place: usize) -> Field
         word = word * 16 + value;
         j += 1;
     }
+    ok = ok & (text[place + 16] == b'\n');
     Field { ok, word }
-}
-
-// Reads the sixteen digits and the line feed from a place on. Where the text ends before, they are not ok, and the word is 0.
-pub fn read_word(text: &[u8], place: usize) -> Field
-    ensures { λ r. ⌜ r ≡ wordAt (now (text .entry)) place ⌝ }
-{
-    if !has_room(text.len(), place, 17) {
-        return Field { ok: false, word: 0 };
-    }
-    let digits = read_digits(text, place);
-    let ok = digits.ok & (text[place + 16] == b'\n');
-    Field {
-        ok,
-        word: digits.word,
-    }
 }
 
 // Reads the line from a place on: a key, given with its `=`, and the word behind it. Where the text ends before, it is not ok, and the word is 0.
