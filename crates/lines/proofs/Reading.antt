@@ -6,42 +6,47 @@ use mathlib.Core.Bool.{Bool, true, false, _&&_, and-true, and-assoc}
 use mathlib.Core.List.{List, [], _∷_, _++_, map}
 use native.Mathlib.Omega.{arith}
 use native.Mathlib.Nat.{add-zero, div-one}
-use borrow.Author.Tests.{le-leb}
+use borrow.Author.Tests.{leb-false, le-leb, lt-leb}
 use lib.Dec.{eqb}
 use lib.ListN.{length, getD, drop, drop-of-length-le, length-append}
 use Rattle.bits.specs.Same.{sameList}
 use Rattle.bits.proofs.SameLaws.{same-lengths}
 use Rattle.lines.specs.Lines.{keyOf, hexDigit, hexDigits, linesOf, linesLength, digitValue, numberAt, placesOf, wordsIn, isText}
 use Rattle.lines.specs.Places.{hasRoom}
-use Rattle.lines.specs.Fields.{hasKey, areDigits, lineWithin, lineAt, linesAt, allOk, wordsRead}
+use Rattle.lines.specs.Fields.{areKey, hasKey, areDigits, noField, wordAt, lineAt, linesAt, allOk, wordsRead}
 use Rattle.lines.proofs.Digits.{value-below}
 use Rattle.lines.proofs.Back.{from-place, at-place, upper-part, line-parts}
 
 -- ---- a key
 
 module _ (t : List ℕ) (p : ℕ) (key : List ℕ) where
-  pub key-start : hasKey t p key ≡ hasKey t (p + 0) key
-  key-start = rw (add-zero p)
+  pub key-missing : hasRoom (length t) p (length key) ≡ false → hasKey t p key ≡ false
+  unfolding hasKey
+  key-missing e = rw e
+
+  pub key-start : hasRoom (length t) p (length key) ≡ true → hasKey t p key ≡ areKey t (p + 0) key
+  unfolding hasKey
+  key-start e = rw (e, add-zero p)
 
   pub key-more : (r : Bool) (i : ℕ) → i < length key
-      → (r && hasKey t (p + i) (drop i key)) ≡ ((r && eqb (getD t (p + i) 0) (getD key i 0)) && hasKey t (p + (i + 1)) (drop (i + 1) key))
-  unfolding hasKey
+      → (r && areKey t (p + i) (drop i key)) ≡ ((r && eqb (getD t (p + i) 0) (getD key i 0)) && areKey t (p + (i + 1)) (drop (i + 1) key))
+  unfolding areKey
   key-more r i h =
       let s : p + (i + 1) ≡ p + i + 1 = omega arith in
       rw (from-place key i h, s) (sym (and-assoc r _ _))
 
-  pub key-all : (r : Bool) (i : ℕ) → length key ≤ i → (r && hasKey t (p + i) (drop i key)) ≡ r
-  unfolding hasKey
+  pub key-all : (r : Bool) (i : ℕ) → length key ≤ i → (r && areKey t (p + i) (drop i key)) ≡ r
+  unfolding areKey
   key-all r i h = rw (drop-of-length-le key h) (and-true r)
 
 key-same : (key t rest : List ℕ) (p : ℕ) → p + length key ≤ length t
-    → sameList (drop p t) (key ++ rest) ≡ (hasKey t p key && sameList (drop (p + length key) t) rest)
-unfolding hasKey sameList
+    → sameList (drop p t) (key ++ rest) ≡ (areKey t p key && sameList (drop (p + length key) t) rest)
+unfolding areKey sameList
 key-same [] t rest p h = rw (add-zero p)
 key-same (b ∷ key) t rest p h =
     let s : p + suc (length key) ≡ p + 1 + length key = omega arith in
     rw (from-place t p (omega arith), key-same key t rest (p + 1) (omega arith), s)
-    (sym (and-assoc (eqb (getD t p 0) b) (hasKey t (p + 1) key) (sameList (drop (p + 1 + length key) t) rest)))
+    (sym (and-assoc (eqb (getD t p 0) b) (areKey t (p + 1) key) (sameList (drop (p + 1 + length key) t) rest)))
 
 -- ---- digits
 
@@ -72,30 +77,44 @@ digits-same (suc n) v t rest p h =
 
 -- ---- a line
 
-and-four : (a b c d : Bool) → (a && (b && (c && d))) ≡ (((a && b) && c) && d)
-and-four true b c d = sym (and-assoc b c d)
-and-four false b c d = refl
+and-four : (a b c d : Bool) → (a && (b && (c && d))) ≡ ((a && (b && c)) && d)
+and-four a b c d = simp and-assoc
 
-pub line-missing : (t key : List ℕ) (p : ℕ) → hasRoom (length t) p (length key + 17) ≡ false → record { ok = false; word = 0 } ≡ lineAt t p key
+pub word-missing : (t : List ℕ) (p : ℕ) → hasRoom (length t) p 17 ≡ false → noField ≡ wordAt t p
+unfolding wordAt
+word-missing t p e = rw e
+
+pub word-within : (t : List ℕ) (p : ℕ) → p + 17 ≤ length t
+    → wordAt t p ≡ record { ok = areDigits 16 t p && eqb (getD t (p + 16) 0) 10; word = numberAt 16 0 t p }
+unfolding wordAt
+word-within t p h = rw (le-leb (p + 17) (length t) h)
+
+pub line-missing : (t key : List ℕ) (p : ℕ) → hasRoom (length t) p (length key) ≡ false → noField ≡ lineAt t p key
 unfolding lineAt
-line-missing t key p e = rw e
+line-missing t key p e =
+    let n : hasRoom (length t) (p + length key) 17 ≡ false =
+    lt-leb (p + length key + 17) (length t) (omega (arith, leb-false (p + length key) (length t) e)) in
+    rw (key-missing t p key e, ← word-missing t (p + length key) n)
 
-module _ (t key : List ℕ) (p : ℕ) (room : p + (length key + 17) ≤ length t) where
-  pub line-within : lineAt t p key ≡ lineWithin t p key
-  unfolding lineAt
-  line-within = rw (le-leb (p + (length key + 17)) (length t) room)
+module _ (t key : List ℕ) (p : ℕ) (room : p + length key + 17 ≤ length t) where
+  line-within : lineAt t p key ≡ record {
+    ok = areKey t p key && (areDigits 16 t (p + length key) && eqb (getD t (p + length key + 16) 0) 10);
+    word = numberAt 16 0 t (p + length key);
+  }
+  unfolding hasKey lineAt
+  line-within = rw (le-leb (p + length key) (length t) (omega arith), word-within t (p + length key) room)
 
   line-same : (rest : List ℕ)
       → sameList (drop p t) (key ++ (hexDigits 16 (numberAt 16 0 t (p + length key)) ++ 10 ∷ rest))
-      ≡ (lineWithin t p key .ok && sameList (drop (p + length key + 17) t) rest)
+      ≡ (lineAt t p key .ok && sameList (drop (p + length key + 17) t) rest)
   unfolding sameList
   line-same rest =
       let q = p + length key in
       let digits = hexDigits 16 (numberAt 16 0 t q) in
       let s : q + 17 ≡ q + 16 + 1 = omega arith in
       key-same key t (digits ++ 10 ∷ rest) p (omega arith)
-      ∙ rw (digits-same 16 0 t (10 ∷ rest) q (omega arith), from-place t (q + 16) (omega arith), s)
-      (and-four (hasKey t p key) (areDigits 16 t q) (eqb (getD t (q + 16) 0) 10) (sameList (drop (q + 16 + 1) t) rest))
+      ∙ rw (line-within, digits-same 16 0 t (10 ∷ rest) q (omega arith), from-place t (q + 16) (omega arith), s)
+      (and-four (areKey t p key) (areDigits 16 t q) (eqb (getD t (q + 16) 0) 10) (sameList (drop (q + 16 + 1) t) rest))
 
 -- ---- lines
 
@@ -114,10 +133,10 @@ module _ (t : List ℕ) where
   lines-same [] ws p i h e = let l : length t ≤ p = omega arith in rw (drop-of-length-le t l)
   lines-same (k ∷ ks) ws p i h e =
       let q = p + length (keyOf k) in
-      let room : p + (length (keyOf k) + 17) ≤ length t = omega arith in
+      let room : q + 17 ≤ length t = omega arith in
       let a = at-place ws (map (numberAt 16 0 t) (placesOf ks (q + 17))) i (numberAt 16 0 t q) e in
-      rw (line-parts k (getD ws i 0) (linesOf ks (i + 1) ws), a .0, line-within t (keyOf k) p room)
-      (line-same t (keyOf k) p room (linesOf ks (i + 1) ws) ∙ ap (λ (b : Bool). lineWithin t p (keyOf k) .ok && b) (lines-same ks ws (q + 17) (i + 1) (omega arith) (a .1)))
+      rw (line-parts k (getD ws i 0) (linesOf ks (i + 1) ws), a .0)
+      (line-same t (keyOf k) p room (linesOf ks (i + 1) ws) ∙ ap (λ (b : Bool). lineAt t p (keyOf k) .ok && b) (lines-same ks ws (q + 17) (i + 1) (omega arith) (a .1)))
 
   words-same : (ks : List String) (p : ℕ) → p + linesLength ks ≡ length t → map (numberAt 16 0 t) (placesOf ks p) ≡ wordsRead (linesAt ks t p)
   unfolding linesLength placesOf linesAt wordsRead

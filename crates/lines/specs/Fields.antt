@@ -10,28 +10,31 @@ use Rattle.lines.specs.Lines.{keyOf, hexDigit, digitValue, numberAt}
 use Rattle.lines.specs.Places.{hasRoom}
 
 -- the bytes from place p on are those of a key
+unfoldable pub areKey : List ℕ → ℕ → List ℕ → Bool
+areKey t p [] = true
+areKey t p (b ∷ key) = eqb (getD t p 0) b && areKey t (p + 1) key
+
+-- a key stands at place p
 unfoldable pub hasKey : List ℕ → ℕ → List ℕ → Bool
-hasKey t p [] = true
-hasKey t p (b ∷ key) = eqb (getD t p 0) b && hasKey t (p + 1) key
+hasKey t p key = hasRoom (length t) p (length key) && areKey t p key
 
 -- the n bytes from place p on are digits: each is the digit of its value
 unfoldable pub areDigits : ℕ → List ℕ → ℕ → Bool
 areDigits zero t p = true
 areDigits (suc n) t p = eqb (getD t p 0) (hexDigit (digitValue (getD t p 0))) && areDigits n t (p + 1)
 
-unfoldable pub digitsAt : List ℕ → ℕ → Field
-digitsAt t p = record { ok = areDigits 16 t p; word = numberAt 16 0 t p }
+-- the text ends before
+abbrev pub noField : Field
+noField = record { ok = false; word = 0 }
 
--- the line with the key, `=` included, at place p, which lies within the text: key, digits, line feed
-abbrev pub lineWithin : List ℕ → ℕ → List ℕ → Field
-lineWithin t p key = record {
-  ok = (hasKey t p key && areDigits 16 t (p + length key)) && eqb (getD t (p + length key + 16) 0) 10;
-  word = numberAt 16 0 t (p + length key);
-}
+-- the digits and the line feed from place p on
+unfoldable pub wordAt : List ℕ → ℕ → Field
+wordAt t p =
+    cond (hasRoom (length t) p 17) (record { ok = areDigits 16 t p && eqb (getD t (p + 16) 0) 10; word = numberAt 16 0 t p }) noField
 
--- the line with the key at place p; not ok, with the word 0, where it does not fit into the text
+-- the line from place p on: the key, with its `=`, and the word behind it
 unfoldable pub lineAt : List ℕ → ℕ → List ℕ → Field
-lineAt t p key = cond (hasRoom (length t) p (length key + 17)) (lineWithin t p key) (record { ok = false; word = 0 })
+lineAt t p key = let w = wordAt t (p + length key) in record { ok = hasKey t p key && w .ok; word = w .word }
 
 -- a line for each key, from the place where the one before ended
 unfoldable pub linesAt : List String → List ℕ → ℕ → List Field

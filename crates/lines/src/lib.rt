@@ -5,9 +5,9 @@ ghost use lib.ListN.{length, getD};
 ghost use lib.Seq.{sets};
 ghost use Rattle.lines.specs.Lines.{hexDigit, hexDigits, digitValue};
 ghost use Rattle.lines.specs.Places.{hasRoom, withWord, withWords};
-ghost use Rattle.lines.specs.Fields.{hasKey, digitsAt, lineAt};
+ghost use Rattle.lines.specs.Fields.{hasKey, wordAt, lineAt};
 
-// What is read of a line: whether it is in the form, and its word.
+// A word that is read, and whether what was read is in the form.
 pub struct Field {
     pub ok: bool,
     pub word: u64,
@@ -83,10 +83,12 @@ pub fn write_words(places: &[usize], words: &[u64], text: &mut [u8])
 }
 
 // Whether a key stands at a place. Every byte is looked at, and so below: without an early end several are compared at a time.
-fn has_key(text: &[u8], place: usize, key: &[u8]) -> bool
-    requires { ⌜ place + length (now key) ≤ length (now text) ⌝ }
+pub fn has_key(text: &[u8], place: usize, key: &[u8]) -> bool
     ensures { λ r. ⌜ r ≡ hasKey (now (text .entry)) place (now (key .entry)) ⌝ }
 {
+    if !has_room(text.len(), place, key.len()) {
+        return false;
+    }
     let mut same = true;
     let mut i: usize = 0;
     while i < key.len() {
@@ -96,11 +98,13 @@ fn has_key(text: &[u8], place: usize, key: &[u8]) -> bool
     same
 }
 
-// The number of sixteen digits from a place on.
-fn read_digits(text: &[u8], place: usize) -> Field
-    requires { ⌜ place + 16 ≤ length (now text) ⌝ }
-    ensures { λ r. ⌜ r ≡ digitsAt (now (text .entry)) place ⌝ }
+// Reads the sixteen digits and the line feed from a place on. Where the text ends before, they are not ok, and the word is 0.
+pub fn read_word(text: &[u8], place: usize) -> Field
+    ensures { λ r. ⌜ r ≡ wordAt (now (text .entry)) place ⌝ }
 {
+    if !has_room(text.len(), place, 17) {
+        return Field { ok: false, word: 0 };
+    }
     let mut ok = true;
     let mut word: u64 = 0;
     let mut j: usize = 0;
@@ -111,23 +115,21 @@ fn read_digits(text: &[u8], place: usize) -> Field
         word = word * 16 + value;
         j += 1;
     }
+    ok = ok & (text[place + 16] == b'\n');
     Field { ok, word }
 }
 
-// Reads the line from a place on, whose key comes with its `=`. A line that does not fit into the text is not ok, and its word is 0.
-// The key is compared first: the other way round the sixteen digits are no longer read at once.
+// Reads the line from a place on: a key, given with its `=`, and the word behind it. Where the text ends before, it is not ok, and the word is 0.
 pub fn read_line(text: &[u8], place: usize, key: &[u8]) -> Field
     ensures { λ r. ⌜ r ≡ lineAt (now (text .entry)) place (now (key .entry)) ⌝ }
 {
-    if !has_room(text.len(), place, key.len() + 17) {
+    if !has_room(text.len(), place, key.len()) {
         return Field { ok: false, word: 0 };
     }
-    let start = place + key.len();
     let keyed = has_key(text, place, key);
-    let digits = read_digits(text, start);
-    let ok = keyed & digits.ok & (text[start + 16] == b'\n');
+    let digits = read_word(text, place + key.len());
     Field {
-        ok,
+        ok: keyed & digits.ok,
         word: digits.word,
     }
 }

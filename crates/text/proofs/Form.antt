@@ -11,7 +11,7 @@ use lib.Seq.{sets, take-length}
 use Rattle.lines.specs.Lines.{bytesOf, hexDigits, lineOf, linesOf, linesLength, placesOf, wordsIn, isText}
 use Rattle.lines.specs.Places.{withWord, withWords}
 use Rattle.lines.specs.declared.Field.{Field}
-use Rattle.lines.specs.Fields.{lineAt, linesAt, allOk, wordsRead}
+use Rattle.lines.specs.Fields.{hasKey, wordAt, lineAt, linesAt, allOk, wordsRead}
 use Rattle.bits.proofs.Conjunction.{both}
 use Rattle.lines.proofs.Back.{from-place}
 use Rattle.lines.proofs.Reading.{lines-length, text-judged, words-judged, not-text}
@@ -45,7 +45,7 @@ form-ordered = refl
 
 -- the keys in the text of zeros are the keys
 form-lines : (t : List ℕ) → linesBy (textOf []) (placesOf keys 0) t 0 ≡ linesAt keys t 0
-unfolding bytesOf keys hexDigits lineOf linesOf textOf placesOf linesBy linesAt
+unfolding bytesOf keys hexDigits lineOf linesOf textOf placesOf linesBy lineAt linesAt
 form-lines t = refl
 
 -- 41 words are read
@@ -84,14 +84,12 @@ module _ (form ps : List ℕ) (i p : ℕ) where
       let l = both (leb p digits) (leb (digits + 17) (length form)) (b .0) in
       (leb-true p digits (l .0), leb-true (digits + 17) (length form) (l .1), b .1)
 
-  pub lines-more : (t : List ℕ) (ok : Bool) (ws : List ℕ) (f : Field) → i < length ps → f ≡ lineAt t p (take (digits - p) (drop p form))
-      → ((ok && allOk (linesBy form (drop i ps) t p)) ≡ ((ok && f .ok) && allOk (linesBy form (drop (i + 1) ps) t (digits + 17))))
+  pub lines-more : (t : List ℕ) (ok : Bool) (ws : List ℕ) (k : Bool) (f : Field)
+      → i < length ps → k ≡ hasKey t p (take (digits - p) (drop p form)) → f ≡ wordAt t digits
+      → ((ok && allOk (linesBy form (drop i ps) t p)) ≡ (((ok && k) && f .ok) && allOk (linesBy form (drop (i + 1) ps) t (digits + 17))))
       × (sets ws i (wordsRead (linesBy form (drop i ps) t p)) ≡ sets (set ws i (f .word)) (i + 1) (wordsRead (linesBy form (drop (i + 1) ps) t (digits + 17))))
   unfolding linesBy allOk wordsRead
-  lines-more t ok ws f h e = (
-    rw (from-place ps i h, ← e) (sym (and-assoc ok (f .ok) (allOk (linesBy form (drop (i + 1) ps) t (digits + 17))))),
-    rw (from-place ps i h, ← e, add-one i),
-  )
+  lines-more t ok ws k f h d e = (rw (from-place ps i h, ← d, ← e) (simp and-assoc), rw (from-place ps i h, ← e, add-one i))
 
   pub lines-all : (t : List ℕ) (ok : Bool) (ws : List ℕ) → length ps ≤ i
       → ((ok && allOk (linesBy form (drop i ps) t p)) ≡ ok) × (sets ws i (wordsRead (linesBy form (drop i ps) t p)) ≡ ws)

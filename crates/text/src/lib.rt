@@ -123,7 +123,8 @@ pub fn write(words: [u64; 41], buffer: &mut [u8]) -> bool
     true
 }
 
-// Reads line after line. The key of each stands in a form, from the end of the line before up to the place of its digits.
+// Reads line after line. The key of each stands in a form, from the end of the line before up to the place of its digits. Key and word are
+// read apart: as read_word has this caller too, lines::read_line stays small, and is inlined where its key is a constant.
 fn read_lines(form: &[u8], places: &[usize], text: &[u8], words: &mut [u64]) -> bool
     requires { ⌜ (inOrder (length (now form)) (now places) 0 ≡ true) × (length (now places) ≤ length (now words)) ⌝ }
     ensures { λ r. ⌜ r ≡ allOk (linesBy (now (form .entry)) (now (places .entry)) (now (text .entry)) 0) ⌝ }
@@ -134,9 +135,10 @@ fn read_lines(form: &[u8], places: &[usize], text: &[u8], words: &mut [u64]) -> 
     let mut i: usize = 0;
     while i < places.len() {
         let place = places[i];
-        let line = lines::read_line(text, start, &form[start..place]);
-        ok = ok & line.ok;
-        words[i] = line.word;
+        let keyed = lines::has_key(text, start, &form[start..place]);
+        let digits = lines::read_word(text, place);
+        ok = ok & keyed & digits.ok;
+        words[i] = digits.word;
         start = place + 17;
         i += 1;
     }

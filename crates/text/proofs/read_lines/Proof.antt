@@ -37,11 +37,12 @@ loop-holds c = (refl, c .before .before .before .before .pre .0, refl, refl)
 loop-again : tie.Need-loop-again Inv-loop μ-loop
 loop-again c =
     let r = c .before in
-    let n = r .before .before .before in
+    let k = r .before in
+    let n = k .before .before .before in
     let l = n .before .loop in
     let a = n .before .before .before .before .before .before .args in
-    let f = r .read-line .result in
-    let m = lines-more (a .form .now) (a .places .now) (l .i) (l .start) (a .text .now) (l .ok) (l .words) f (n .loop-test .taken) (r .read-line .ensures) in
+    let f = r .read-word .result in
+    let m = lines-more (a .form .now) (a .places .now) (l .i) (l .start) (a .text .now) (l .ok) (l .words) (k .has-key .result) f (n .loop-test .taken) (k .has-key .ensures) (r .read-word .ensures) in
     (length-set (l .words) (l .i) (f .word) ∙ l .inv .0, ordered n .2, l .inv .2 ∙ m .0, l .inv .3 ∙ m .1)
 
 returns : tie.Need-returns Inv-loop μ-loop
@@ -64,9 +65,10 @@ read-lines-spec =
     (λ c. omega (arith, ordered (c .before)))
     (λ c. omega (arith, ordered (c .before)))
     (λ c κs. search needs)
+    (λ c κs. search needs)
     (λ c. search needs)
     (λ c. search needs)
-    (λ c. omega (arith, ordered (c .before .before .before .before)))
+    (λ c. omega (arith, ordered (c .before .before .before .before .before)))
     (λ c. search needs)
     (λ c. search needs)
     loop-again
