@@ -7,7 +7,7 @@ use native.Mathlib.Omega.{arith}
 use borrow.Author.Tests.{le-leb}
 use lib.ListN.{length, take, drop, replicate, drop-of-length-le}
 use lib.Seq.{take-at}
-use Rattle.bits.specs.Lists.{elements}
+use Rattle.bits.specs.Lists.{elements, Words}
 use Rattle.steps.specs.declared.Answer.{Answer}
 use Rattle.steps.specs.declared.Answer.the-variants.{Done, DoneValue, DoneFlag, Granted, Trapped, Refused}
 use Rattle.protection.specs.Configs.{packed}
@@ -16,7 +16,6 @@ use Rattle.state.specs.Hold.{canHold, resetState}
 use Rattle.state.specs.Words.{wordsOf, stateOf}
 use Rattle.state.proofs.Back.{words-back, state-back}
 use Rattle.map.specs.declared.Map.{Map}
-use Rattle.lines.proofs.Back.{Words}
 use Rattle.text.specs.declared.Reading.{Reading}
 use Rattle.text.specs.Text.{textOf, textLength, readAs, writtenTo, readText}
 use Rattle.text.proofs.Form.{text-length}
@@ -85,7 +84,7 @@ module _ (g h : Hart) (map m : Map) (text : List ℕ) where
           let s : stateOf ws ≡ h .state = ap (λ (x : Stepped). x .hart .state) e in
           record {
             is-text =
-                text-read text ws r ∙ ap textOf (sym (words-back ws (record { count = w .count; below = w .below }))) ∙ ap (λ (x : State). textOf (wordsOf x)) s;
+                text-read text ws r ∙ ap textOf (sym (words-back ws w)) ∙ ap (λ (x : State). textOf (wordsOf x)) s;
             held = ap canHold (sym s) ∙ q;
           }
       go false q e = absurd (false≢true (ap (λ (x : Stepped). isDone (x .answer)) e))

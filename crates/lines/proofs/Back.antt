@@ -14,12 +14,8 @@ use lib.ListN.{length, getD, drop, drop-of-length-le, length-map}
 use lib.Seq.{getD-drop, drop-drop, drop-cons, drop-append-seam}
 use Rattle.lines.specs.Lines.{keyOf, hexDigit, hexDigits, lineOf, linesOf, digitValue, numberAt, placesOf, wordsIn, isText}
 use Rattle.lines.proofs.Digits.{number-fits, value-below}
+use Rattle.bits.specs.Lists.{Words}
 use Rattle.bits.proofs.SameLaws.{same-refl, same-eq}
-
--- n words of 64 bits
-pub record Words (n : ℕ) (ws : List ℕ) : Type 0 where
-  pub count : length ws ≡ n
-  pub below : (i : ℕ) → getD ws i 0 < 2 ^ 64
 
 -- ---- a place of a list
 

@@ -6,7 +6,8 @@ use mathlib.Core.List.{List, _∷_}
 use native.Mathlib.Omega.{arith}
 use lib.ListN.{replicate}
 use Rattle.lines.specs.Lines.{bytesOf, hexDigits, lineOf, linesOf, wordsIn, isText}
-use Rattle.lines.proofs.Back.{Words, text-only, words-found, words-back, is-text}
+use Rattle.bits.specs.Lists.{Words}
+use Rattle.lines.proofs.Back.{text-only, words-found, words-back, is-text}
 use Rattle.text.specs.declared.Reading.{Reading}
 use Rattle.text.specs.Text.{keys, textOf, readAs, noText, readText}
 

@@ -13,7 +13,8 @@ use Rattle.state.specs.Hold.{canHold}
 use Rattle.map.specs.declared.Map.{Map}
 use Rattle.engine.proofs.Holds.{rule-holds}
 use Rattle.lines.specs.Lines.{linesOf, wordsIn, isText}
-use Rattle.lines.proofs.Back.{Words, text-only, words-back, is-text}
+use Rattle.bits.specs.Lists.{Words}
+use Rattle.lines.proofs.Back.{text-only, words-back, is-text}
 use Rattle.hart.specs.declared.Hart.{Hart}
 use Rattle.hart.specs.declared.Mapped.{Mapped}
 use Rattle.hart.specs.declared.Stepped.{Stepped}
