@@ -5,7 +5,7 @@ use lib.ListN.{drop}
 use borrow.Author.Needs.{needs}
 use Rattle.state.specs.Hold.{canHold}
 use Rattle.state.specs.Words.{stateOf}
-use Rattle.trace.specs.Batches.{recordsOf, carried}
+use Rattle.trace.specs.Batches.{carried}
 use Rattle.trace.proofs.Batching.{
   given,
   begun,
