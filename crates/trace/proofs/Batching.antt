@@ -31,20 +31,8 @@ use Rattle.trace.specs.declared.Written.{Written}
 use Rattle.trace.specs.Records.{readStep}
 use Rattle.trace.specs.Buffers.{Put, atFront}
 use Rattle.trace.specs.Answers.{answerLine, brokenLine}
-use Rattle.trace.specs.Batches.{
-  afterStep,
-  afterDecoded,
-  decodedLine,
-  afterRecord,
-  recordLine,
-  recordsOf,
-  afterRecords,
-  recordLines,
-  recordsIn,
-  batchLines,
-  batched,
-  carried,
-}
+use Rattle.trace.specs.Batches.{afterStep, afterDecoded, decodedLine, afterRecord, recordLine, recordsOf, afterRecords, recordLines}
+use Rattle.trace.specs.Batches.{recordsIn, batchLines, batched, carried}
 use Rattle.trace.proofs.Writing.{sets-append, answer-length, broken-length}
 
 -- ---- records that do nothing more

@@ -6,20 +6,8 @@ use borrow.Author.Needs.{needs}
 use Rattle.state.specs.Hold.{canHold}
 use Rattle.state.specs.Words.{stateOf}
 use Rattle.trace.specs.Batches.{carried}
-use Rattle.trace.proofs.Batching.{
-  given,
-  begun,
-  held-next,
-  Turn,
-  read-here,
-  turn-start,
-  turn-formed,
-  turn-broken,
-  stopped-still,
-  none-still,
-  batch-returned,
-  batch-stopped,
-}
+use Rattle.trace.proofs.Batching.{given, begun, held-next, Turn, read-here, turn-start, turn-formed, turn-broken}
+use Rattle.trace.proofs.Batching.{stopped-still, none-still, batch-returned, batch-stopped}
 use Rattle.trace.proofs.batch.batch.Statement.{statement}
 use Rattle.trace.proofs.batch.batch.Tie as tie
 
