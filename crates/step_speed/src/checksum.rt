@@ -50,12 +50,11 @@ pub(crate) fn left_by(start: u64, hart: Hart, map: Map) -> u64 {
         i += 1;
     }
     sum = summed(sum, map.count);
+    let n = map::count_read(map.count);
     let mut k: usize = 0;
-    while k < 33 {
-        if (k as u64) < map.count {
-            let range = map.ranges[k];
-            sum = summed(summed(summed(sum, range.first), range.last), range.owner);
-        }
+    while k < n {
+        let range = map.ranges[k];
+        sum = summed(summed(summed(sum, range.first), range.last), range.owner);
         k += 1;
     }
     sum

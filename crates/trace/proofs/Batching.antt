@@ -31,20 +31,8 @@ use Rattle.trace.specs.declared.Written.{Written}
 use Rattle.trace.specs.Records.{readStep}
 use Rattle.trace.specs.Buffers.{Put, atFront}
 use Rattle.trace.specs.Answers.{answerLine, brokenLine}
-use Rattle.trace.specs.Batches.{
-  afterStep,
-  afterDecoded,
-  decodedLine,
-  afterRecord,
-  recordLine,
-  recordsOf,
-  afterRecords,
-  recordLines,
-  recordsIn,
-  batchLines,
-  batched,
-  carried,
-}
+use Rattle.trace.specs.Batches.{afterStep, afterDecoded, decodedLine, afterRecord, recordLine, recordsOf, afterRecords, recordLines}
+use Rattle.trace.specs.Batches.{recordsIn, batchLines, batched, carried}
 use Rattle.trace.proofs.Writing.{sets-append, answer-length, broken-length}
 
 -- ---- records that do nothing more
@@ -105,8 +93,8 @@ pub begun : (r : Replay) (w : List ℕ) → r .stopped ≡ false → Arrays (r .
     → carried (stateOf w) false (r .map) (r .number) false ≡ r
 begun r w h t e = λ j. record { hart = hartWith (given (r .hart .state) t e j); map = r .map; number = r .number; stopped = sym h j }
 
-module _ (s x : State) (held remap : Bool) (map : Map) (number : ℕ) (step : Step) (t : Taken) (h : held ≡ canHold s)
-    (e : t ≡ stepTaken held s step) (f : x ≡ ruledBy held s step .state) where
+module _ (s : State) (step : Step) {x : State} {held : Bool} {t : Taken} (h : held ≡ canHold s) (e : t ≡ stepTaken held s step)
+    (f : x ≡ ruledBy held s step .state) where
   pub held-next : t .held ≡ canHold x
   unfolding stepTaken
   held-next = ap (λ (y : Taken). y .held) e ∙ still-held held s step h ∙ ap canHold (sym f)
@@ -116,33 +104,33 @@ module _ (s x : State) (held remap : Bool) (map : Map) (number : ℕ) (step : St
   ruled = ap (λ (b : Bool). ruledBy b s step) h
 
   -- a map compiled before is that of the registers, where the step leaves them
-  map-next : (r b : Bool) → remaps s step ≡ b
+  map-next : (map : Map) (r b : Bool) → remaps s step ≡ b
       → cond b (mapFor (stateAfter s step .pmp)) (cond r (mapFor (s .pmp)) map) ≡ cond (r || b) (mapFor (stateAfter s step .pmp)) map
   unfolding fold anyStep
-  map-next true true q = refl
-  map-next true false q = ap mapFor (pmp-stays s (step ∷ []) (ap (λ (b : Bool). b || false) q))
-  map-next false true q = refl
-  map-next false false q = refl
+  map-next map true true q = refl
+  map-next map true false q = ap mapFor (pmp-stays s (step ∷ []) (ap (λ (b : Bool). b || false) q))
+  map-next map false true q = refl
+  map-next map false false q = refl
 
-  step-carried : stepped (hartWith s) (cond remap (mapFor (s .pmp)) map) step
+  step-carried : (remap : Bool) (map : Map) → stepped (hartWith s) (cond remap (mapFor (s .pmp)) map) step
       ≡ handedBack (hartWith x) (cond (remap || t .remap) (mapFor (x .pmp)) map) (t .answer)
   unfolding stepTaken
-  step-carried =
+  step-carried remap map =
       let q : stateAfter s step ≡ x = sym (f ∙ ap (λ r. r .state) ruled) in
       let a : stepRule s step .answer ≡ t .answer = sym (ap (λ (y : Taken). y .answer) e ∙ ap (λ r. r .answer) ruled) in
       let m : remaps s step ≡ t .remap = sym (ap (λ (y : Taken). y .remap) e ∙ rw ruled) in
-      let n = map-next remap (remaps s step) refl ∙ (λ j. cond (remap || m j) (mapFor (q j .pmp)) map) in
+      let n = map-next map remap (remaps s step) refl ∙ (λ j. cond (remap || m j) (mapFor (q j .pmp)) map) in
       step-parts (hartWith s) (cond remap (mapFor (s .pmp)) map) step ∙ (λ j. handedBack (hartWith (q j)) (n j) (a j))
 
-  formed : (text : List ℕ) (k : ℕ) → readStep text ≡ Formed step → k ≡ (number + 1) % 2 ^ 64 →
+  formed : (remap : Bool) (map : Map) (number : ℕ) (text : List ℕ) {k : ℕ} → readStep text ≡ Formed step → k ≡ (number + 1) % 2 ^ 64 →
       let here = carried s remap map number false in
       (afterRecord here text ≡ carried x (remap || t .remap) map k false) × (recordLine here text ≡ answerLine (t .answer))
   unfolding afterRecord recordLine
-  formed text k r i =
-      let here = carried s remap map number false in (
-        ap (afterDecoded here) r ∙ ap (λ (y : Stepped). afterStep y number) step-carried
-            ∙ (λ j. record { hart = hartWith x; map = cond (remap || t .remap) (mapFor (x .pmp)) map; number = sym i j; stopped = false }),
-        ap (decodedLine here) r ∙ ap (λ (y : Stepped). answerLine (y .answer)) step-carried,
+  formed remap map number text r i =
+      let here = carried s remap map number false in
+      let c = step-carried remap map in (
+        ap (afterDecoded here) r ∙ ap (λ (y : Stepped). afterStep y number) c ∙ (λ j. carried x (remap || t .remap) map (sym i j) false),
+        ap (decodedLine here) r ∙ ap (λ (y : Stepped). answerLine (y .answer)) c,
       )
 
 -- ---- the loop
@@ -219,12 +207,12 @@ module _ {input before : List ℕ} {total : ℕ} {start : Replay} {out : List �
 
 module _ {input before : List ℕ} {total : ℕ} {start : Replay} {out : List ℕ} {left : ℕ} (s : State) (remap : Bool) (map : Map) (number : ℕ) {filled at : ℕ}
     (turn : Turn input before total start out left (carried s remap map number false) filled at) (more : 0 < left) {after : List ℕ} {next : ℕ} where
-  pub turn-formed : (x : State) (held : Bool) (step : Step) (t : Taken) (k : ℕ) → held ≡ canHold s → t ≡ stepTaken held s step
+  pub turn-formed : (step : Step) {x : State} {held : Bool} {t : Taken} {k : ℕ} → held ≡ canHold s → t ≡ stepTaken held s step
       → x ≡ ruledBy held s step .state → readStep (recordAt input at) ≡ Formed step → k ≡ (number + 1) % 2 ^ 64 → Put out filled (answerLine (t .answer)) after next
       → Turn input before total start after (left - 1) (carried x (remap || t .remap) map k false) next (at + 60)
-  turn-formed x held step t k h e f r i put =
+  turn-formed step {x} {held} {t} {k} h e f r i put =
       turn-next turn (carried x (remap || t .remap) map k false) (answerLine (t .answer)) after next more
-      (formed s x held remap map number step t h e f (recordAt input at) k r i) (answer-length (t .answer)) put
+      (formed s step h e f remap map number (recordAt input at) r i) (answer-length (t .answer)) put
 
   pub turn-broken : readStep (recordAt input at) ≡ Nothing → Put out filled (brokenLine number) after next
       → Turn input before total start after (left - 1) (carried s remap map number true) next (at + 60)

@@ -39,20 +39,16 @@ going h map number = record { hart = h; map = map; number = number; stopped = fa
 
 -- ---- what the steps leave
 
-left : (ts : List (List ℕ)) (h : Hart) (map : Map) (number : ℕ) → heldBy (fold afterRecord (going h map number) ts) ≡ leftBy h map (stepsRead ts)
+pub replay-left : (ts : List (List ℕ)) (h : Hart) (map : Map) (number : ℕ) → heldBy (fold afterRecord (going h map number) ts) ≡ leftBy h map (stepsRead ts)
 unfolding fold afterRecord stepsRead
-left [] h map number = refl
-left (t ∷ ts) h map number = go (readStep t) (left ts)
+replay-left [] h map number = refl
+replay-left (t ∷ ts) h map number = go (readStep t) (replay-left ts)
   where
     go : (d : Decoded)
         → ((hart : Hart) (held : Map) (k : ℕ) → heldBy (fold afterRecord (going hart held k) ts) ≡ leftBy hart held (stepsRead ts))
         → heldBy (fold afterRecord (afterDecoded (going h map number) d) ts) ≡ leftBy h map (stepThen d (stepsRead ts))
     go (Formed step) rest = rest (stepped h map step .hart) (stepped h map step .map) ((number + 1) % 2 ^ 64)
     go Nothing rest = ap heldBy (stopped-still (afterDecoded (going h map number) Nothing) refl ts .0)
-
-pub replay-left : (n : ℕ) (h : Hart) (map : Map) (number : ℕ) (t : List ℕ)
-    → heldBy (afterRecords n (going h map number) t) ≡ leftBy h map (stepsRead (recordsOf n t))
-replay-left n h map number t = left (recordsOf n t) h map number
 
 -- ---- a state that a hart can hold stays one, so that it is always saved
 

@@ -25,24 +25,19 @@ fn handed_back(words: [u64; 41], remap: bool, map: Map, number: u64, stopped: bo
 {
     let state = state::of_words(words);
     let hart = Hart { state };
-    if !remap {
-        return Replay {
-            hart,
-            map,
-            number,
-            stopped,
-        };
-    }
-    let pmp = state.pmp;
-    let cfgs = pmp.cfgs;
-    let addrs = pmp.addrs;
-    let fresh = map::compile(cfgs, addrs);
-    Replay {
+    let mut left = Replay {
         hart,
-        map: fresh,
+        map,
         number,
         stopped,
+    };
+    if remap {
+        let pmp = state.pmp;
+        let cfgs = pmp.cfgs;
+        let addrs = pmp.addrs;
+        left.map = map::compile(cfgs, addrs);
     }
+    left
 }
 
 // Steps through the whole records of the input, as far as the buffer has 64 bytes for the line of each, and writes their lines to its front.

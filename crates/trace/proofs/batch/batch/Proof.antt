@@ -5,21 +5,9 @@ use lib.ListN.{drop}
 use borrow.Author.Needs.{needs}
 use Rattle.state.specs.Hold.{canHold}
 use Rattle.state.specs.Words.{stateOf}
-use Rattle.trace.specs.Batches.{recordsOf, carried}
-use Rattle.trace.proofs.Batching.{
-  given,
-  begun,
-  held-next,
-  Turn,
-  read-here,
-  turn-start,
-  turn-formed,
-  turn-broken,
-  stopped-still,
-  none-still,
-  batch-returned,
-  batch-stopped,
-}
+use Rattle.trace.specs.Batches.{carried}
+use Rattle.trace.proofs.Batching.{given, begun, held-next, Turn, read-here, turn-start, turn-formed, turn-broken}
+use Rattle.trace.proofs.Batching.{stopped-still, none-still, batch-returned, batch-stopped}
 use Rattle.trace.proofs.batch.batch.Statement.{statement}
 use Rattle.trace.proofs.batch.batch.Tie as tie
 
@@ -31,11 +19,11 @@ Inv-loop input out₀ left₀ held₀ words₀ map remap₀ number₀ filled₀ 
 abbrev μ-loop : tie.MeasureT-loop
 μ-loop input out₀ left₀ held₀ words₀ map remap₀ number₀ filled₀ at₀ out left held words remap number filled at = left
 
--- where the records are counted, and where the words are made
+-- where the records were counted, and where the call began, from where the words were made
 abbrev counted : tie.After-to-words Inv-loop μ-loop → tie.After-least Inv-loop μ-loop
 counted w = w .before .before .before .before .before .before
 
-abbrev first : (w : tie.After-to-words Inv-loop μ-loop) → tie.Start Inv-loop μ-loop
+abbrev first : tie.After-to-words Inv-loop μ-loop → tie.Start Inv-loop μ-loop
 first w = counted w .before .before .before .before
 
 returns : tie.Need-returns Inv-loop μ-loop
@@ -80,11 +68,10 @@ loop-again c =
     let w = l .before .before in
     let a = first w .args in
     let step = t .step .given .0 .0 in (
-      turn-formed (stateOf (o .words)) (o .remap) (a .start .map) (o .number) (o .inv .0) (r .before .before .loop-test .taken)
-          _ (o .held) step (g .step2 .result) (c .wrapping-add-u64 .result) (o .inv .1) (g .step2 .ensures .0) (g .step2 .ensures .1)
-          (read-here (a .input .now) (o .at) (r .read-step .ensures) ∙ t .step .given .1) (c .wrapping-add-u64 .ensures) (p .put-answer .ensures),
-      held-next (stateOf (o .words)) _ (o .held) (o .remap) (a .start .map) (o .number) step (g .step2 .result) (o .inv .1) (g .step2 .ensures .0)
-          (g .step2 .ensures .1),
+      turn-formed (stateOf (o .words)) (o .remap) (a .start .map) (o .number) (o .inv .0) (r .before .before .loop-test .taken) step
+          (o .inv .1) (g .step2 .ensures .0) (g .step2 .ensures .1) (read-here (a .input .now) (o .at) (r .read-step .ensures) ∙ t .step .given .1)
+          (c .wrapping-add-u64 .ensures) (p .put-answer .ensures),
+      held-next (stateOf (o .words)) step (o .inv .1) (g .step2 .ensures .0) (g .step2 .ensures .1),
     )
 
 returns-3 : tie.Need-returns-3 Inv-loop μ-loop
