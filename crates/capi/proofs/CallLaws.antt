@@ -20,7 +20,7 @@ use Rattle.engine.specs.Runs.{Ran, ran, afterAll, anyRemaps, answersOf}
 use Rattle.hart.specs.declared.Mapped.{Mapped}
 use Rattle.hart.specs.Steps.{mapFor}
 use Rattle.hart.specs.Runs.{leftBy}
-use Rattle.hart.proofs.RunLaws.{left-is, answers-are}
+use Rattle.hart.proofs.LeftLaws.{left-is, answers-are}
 use Rattle.capi.specs.MapWords.{mapOfWords, mapWords}
 use Rattle.capi.specs.Calls.{hartOf, fits, Left, unchanged, left, runCall}
 use Rattle.capi.proofs.MapWords.{map-words-back}

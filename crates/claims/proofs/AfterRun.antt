@@ -25,7 +25,7 @@ use Rattle.hart.specs.declared.Hart.{Hart}
 use Rattle.hart.specs.declared.Stepped.{Stepped}
 use Rattle.hart.specs.Steps.{mapFor, hartWith, resetMapped}
 use Rattle.hart.specs.Runs.{with, leftBy}
-use Rattle.hart.proofs.RunLaws.{left-is}
+use Rattle.hart.proofs.LeftLaws.{left-is}
 use Rattle.claims.specs.AfterRun.{stepsIn, readBack, ruleFromText}
 use Rattle.claims.specs.Faithful.{queryAfter}
 use Rattle.claims.proofs.Faithfulness.{back, text-sound, query-after}

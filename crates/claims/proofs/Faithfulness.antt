@@ -36,7 +36,7 @@ use Rattle.hart.specs.Steps.{mapFor, hartWith, handedBack, resetMapped}
 use Rattle.hart.specs.Queries.{queryAnswer}
 use Rattle.hart.specs.Runs.{with}
 use Rattle.hart.specs.Saved.{restoredDone, restoredWords, restored}
-use Rattle.hart.proofs.RunLaws.{own-map}
+use Rattle.hart.proofs.LeftLaws.{own-map}
 use Rattle.claims.specs.Faithful.{FromText, Start, left, pmpAfter, queryAfter, FaithfulAfter, OneRange, Faithful}
 use Rattle.claims.specs.AfterRun.{ruleAfter}
 

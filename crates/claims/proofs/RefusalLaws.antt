@@ -117,6 +117,6 @@ step-refuses h map step = go (isReset step) (canHold (h .state))
 pub refusal-table : RefusalTable
 refusal-table =
     record {
-      given = λ h map step. step-refuses h map step .0;
+      number = λ h map step. step-refuses h map step .0;
       unchanged = λ h map step z. step-refuses h map step .1 z;
     }

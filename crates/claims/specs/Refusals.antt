@@ -36,6 +36,6 @@ stepRefusal s step = cond (isReset step) 0 (cond (canHold s) (argumentRefusal st
 
 -- a step is refused exactly when the table says, with its number, and hart and map are then what went in
 pub record RefusalTable : Type 0 where
-  pub given : (h : Hart) (map : Map) (step : Step) → refusalOf (stepped h map step .answer) ≡ stepRefusal (h .state) step
+  pub number : (h : Hart) (map : Map) (step : Step) → refusalOf (stepped h map step .answer) ≡ stepRefusal (h .state) step
   pub unchanged : (h : Hart) (map : Map) (step : Step) → (stepRefusal (h .state) step ≡ 0 → ⊥)
       → (stepped h map step .hart ≡ h) × (stepped h map step .map ≡ map)

@@ -7,7 +7,7 @@ use Rattle.pmp.specs.declared.Mode.{Mode}
 use Rattle.pmp.specs.declared.Access.{Access}
 use Rattle.pmp.specs.declared.Decision.the-variants.{Fault}
 use Rattle.pmp.specs.Number.{faultCause}
-use Rattle.pmp.specs.Entry.{entrySpan}
+use Rattle.pmp.specs.Entry.{entries, entrySpan}
 use Rattle.pmp.specs.Rule.{checked, none}
 use Rattle.steps.specs.declared.Event.the-variants.{Mret, TakeInterrupt, Elapsed}
 use Rattle.steps.specs.declared.Step.{Step}
@@ -103,8 +103,8 @@ settings =
     ∷ mapped (resetPmp .cfgs) (resetPmp .addrs) (range 0 (2 ^ 56 - 1) none ∷ [])
     ∷ mapped (na4 ∷ napot ∷ replicate 14 0) (3 ∷ 0x1FF ∷ replicate 14 0)
     (range 0 0xB 1 ∷ range 0xC 0xF 0 ∷ range 0x10 0xFFF 1 ∷ range 0x1000 (2 ^ 56 - 1) none ∷ [])
-    ∷ mapped (replicate 16 na4) odd (alternating 16 0)
-    ∷ counted (replicate 16 na4) odd 33
+    ∷ mapped (replicate entries na4) odd (alternating entries 0)
+    ∷ counted (replicate entries na4) odd 33
     -- W10
     ∷ leaves (withStatus resetRegisters 0xA00020880) (EventStep Mret) (λ r. r .mstatus) 0xA00000088
     ∷ leaves (withStatus resetRegisters 0xA00020880) (EventStep Mret) (λ r. r .mode) 1

@@ -1,4 +1,4 @@
 -- Laws of the definitions.
 pub mod StepLaws
-pub mod RunLaws
+pub mod LeftLaws
 pub mod SavedLaws

@@ -1,4 +1,4 @@
--- Lines read one after the other, each in one pass over its bytes.
+-- The algorithm of reading, and no rule of 01: lines read one after the other, each in one pass over its bytes.
 use Prim.Native.Nat.{ℕ, zero, suc, _+_}
 use Prim.Native.String.{String}
 use mathlib.Core.Bool.{Bool, true, false, cond, _&&_}

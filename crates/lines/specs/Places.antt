@@ -1,4 +1,4 @@
--- Words written to given places of a text.
+-- The algorithm of writing, and no rule of 01: words written to given places of a text.
 use Prim.Native.Nat.{ℕ, _+_}
 use mathlib.Core.Bool.{Bool, cond}
 use mathlib.Core.List.{List, [], _∷_}

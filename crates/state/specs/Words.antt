@@ -3,6 +3,7 @@ use Prim.Native.Nat.{ℕ}
 use mathlib.Core.List.{List, [], _∷_, _++_}
 use lib.ListN.{getD, take, drop}
 use Rattle.bits.specs.Lists.{elements}
+use Rattle.pmp.specs.Entry.{entries}
 use Rattle.registers.specs.declared.Registers.{Registers}
 use Rattle.protection.specs.declared.Pmp.{Pmp}
 use Rattle.protection.specs.Configs.{packed, configsOf}
@@ -39,7 +40,7 @@ registerWords r =
 
 -- pmpcfg0 pmpcfg2 pmpaddr0 to pmpaddr15
 abbrev pub pmpWords : Pmp → List ℕ
-pmpWords p = packed (take 8 (p .cfgs)) ∷ packed (drop 8 (p .cfgs)) ∷ elements 16 0 (p .addrs)
+pmpWords p = packed (take 8 (p .cfgs)) ∷ packed (drop 8 (p .cfgs)) ∷ elements entries 0 (p .addrs)
 
 unfoldable pub wordsOf : State → List ℕ
 wordsOf s = registerWords (s .registers) ++ pmpWords (s .pmp)
@@ -74,7 +75,7 @@ registersOf w =
     }
 
 abbrev pub pmpOf : List ℕ → Pmp
-pmpOf w = record { cfgs = configsOf (getD w 23 0) (getD w 24 0); addrs = elements 16 25 w }
+pmpOf w = record { cfgs = configsOf (getD w 23 0) (getD w 24 0); addrs = elements entries 25 w }
 
 abbrev pub stateOf : List ℕ → State
 stateOf w = record { registers = registersOf w; pmp = pmpOf w }

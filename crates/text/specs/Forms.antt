@@ -1,4 +1,4 @@
--- Lines read by a form, which is a text with all the keys, and the places of its digits.
+-- The algorithm of reading, and no rule of 01: lines read by a form, which is a text with all the keys, and the places of its digits.
 use Prim.Native.Nat.{ℕ, _+_, _-_}
 use mathlib.Core.Bool.{Bool, true, _&&_}
 use mathlib.Core.List.{List, [], _∷_}

@@ -25,7 +25,7 @@ use Rattle.engine.proofs.TakingLaws.{still-held}
 use Rattle.hart.specs.declared.Stepped.{Stepped}
 use Rattle.hart.specs.Steps.{mapFor, hartWith, handedBack, stepped}
 use Rattle.hart.proofs.StepLaws.{step-parts}
-use Rattle.hart.proofs.RunLaws.{pmp-stays}
+use Rattle.hart.proofs.LeftLaws.{pmp-stays}
 use Rattle.trace.specs.declared.Replay.{Replay}
 use Rattle.trace.specs.declared.Written.{Written}
 use Rattle.trace.specs.Records.{readStep}
