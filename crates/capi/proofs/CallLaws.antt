@@ -60,7 +60,7 @@ module _ (hart map steps answers : List ℕ) where
     chosen false m = sym (map-words-back map map-fits)
 
     -- what the engine's run gave: all of it is known, since the call's tests are stronger than the run's
-    given : ran hart steps answers
+    ran-is : ran hart steps answers
         ≡ record {
           remap = anyRemaps (stateOf hart) (stepsOf steps);
           words = wordsOf (afterAll (stateOf hart) (stepsOf steps));
@@ -68,7 +68,7 @@ module _ (hart map steps answers : List ℕ) where
           state = afterAll (stateOf hart) (stepsOf steps);
         }
     unfolding ran
-    given = rw (parts .0, parts .2)
+    ran-is = rw (parts .0, parts .2)
 
     pub made : {r : Bool} {x y z : List ℕ} → length x ≡ 41 → r ≡ ran hart steps answers .remap → x ≡ ran hart steps answers .words
         → y ≡ ran hart steps answers .answers → stateOf x ≡ ran hart steps answers .state
@@ -78,16 +78,16 @@ module _ (hart map steps answers : List ℕ) where
         let s = stateOf hart in
         let l = left-is (stepsOf steps) (hartOf hart) (mapOfWords map) in
         let p : loadedPmp x ≡ afterAll s (stepsOf steps) .pmp =
-        pmp-loaded x fx ∙ ap (λ (q : State). q .pmp) (es ∙ ap (λ (q : Ran). q .state) given) in
-        let c : r ≡ anyRemaps s (stepsOf steps) = er ∙ ap (λ (q : Ran). q .remap) given in
+        pmp-loaded x fx ∙ ap (λ (q : State). q .pmp) (es ∙ ap (λ (q : Ran). q .state) ran-is) in
+        let c : r ≡ anyRemaps s (stepsOf steps) = er ∙ ap (λ (q : Ran). q .remap) ran-is in
         rw t (
           refl,
           (
-            ex ∙ ap (λ (q : Ran). q .words) given ∙ ap (λ (m : Mapped). wordsOf (m .hart .state)) (sym l),
+            ex ∙ ap (λ (q : Ran). q .words) ran-is ∙ ap (λ (m : Mapped). wordsOf (m .hart .state)) (sym l),
             (
               ez ∙ (λ j. cond (c j) (mapWords (mapFor (p j))) map) ∙ chosen (anyRemaps s (stepsOf steps)) (mapFor (afterAll s (stepsOf steps) .pmp))
                   ∙ ap (λ (m : Mapped). mapWords (m .map)) (sym l),
-              ey ∙ ap (λ (q : Ran). q .answers) given
+              ey ∙ ap (λ (q : Ran). q .answers) ran-is
                   ∙ ap (λ (a : List ℕ). sets answers 0 a) (sym (answers-are (hartOf hart) (mapOfWords map) (stepsOf steps))),
             ),
           ),

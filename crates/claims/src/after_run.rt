@@ -34,9 +34,7 @@ fn query_after(
         return left.query(map, mode, access, address, size);
     }
     let changed = after.pmp;
-    let cfgs = changed.cfgs;
-    let addrs = changed.addrs;
-    let fresh = map::compile(cfgs, addrs);
+    let fresh = hart::map_for(changed);
     left.query(fresh, mode, access, address, size)
 }
 

@@ -103,8 +103,8 @@ module _ (w : List ℕ) (fit : length w ≡ 41) where
     number-refused h = rw (lt-ltb 4095 number h) (apart-taken (stateOf w) (refused (stateOf w) 2) refl, refl)
 
     module _ (low : number ≤ 4095) {r : Registers} (er : r ≡ loadedRegisters w) {b : Bool} (eb : b ≡ illegal r op number) where
-      judged : illegal (registersOf w) op number ≡ b
-      judged = sym (eb ∙ ap (λ (y : Registers). illegal y op number) (er ∙ registers-loaded w fit))
+      illegal-is : illegal (registersOf w) op number ≡ b
+      illegal-is = sym (eb ∙ ap (λ (y : Registers). illegal y op number) (er ∙ registers-loaded w fit))
 
       -- the step by the tests that were made
       by-tests : (c : Bool) → isPmp number ≡ c
@@ -112,7 +112,7 @@ module _ (w : List ℕ) (fit : length w ≡ 41) where
           ≡ cond b (onRegisters (stateOf w) (illegalInstruction (registersOf w)))
           (cond c (protectionStep (stateOf w) op number operand) (registerStep (stateOf w) op number operand))
       unfolding csrStep
-      by-tests c e = rw (le-ltb 4095 number low, judged, e)
+      by-tests c e = rw (le-ltb 4095 number low, illegal-is, e)
 
       told : {e : Effect} {t : Taken} {x : State} → csrStep (stateOf w) op number operand ≡ e → Tells (stateOf w) e t x
           → Tells (stateOf w) (csrStep (stateOf w) op number operand) t x

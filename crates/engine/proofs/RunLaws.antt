@@ -20,7 +20,7 @@ use Rattle.steps.proofs.NumberLaws.{Named, nothing-left}
 use Rattle.state.specs.declared.State.{State}
 use Rattle.state.specs.Hold.{canHold}
 use Rattle.state.specs.Words.{wordsOf, stateOf}
-use Rattle.state.proofs.Back.{words-back}
+use Rattle.state.proofs.Back.{state-words}
 use Rattle.engine.specs.declared.Taken.{Taken}
 use Rattle.engine.specs.Effects.{ruledBy, stepRule}
 use Rattle.engine.specs.Taking.{stepTaken, remaps, namedTaken, namedState}
@@ -146,7 +146,7 @@ module _ (w steps answers : List ℕ) where
   -- the words left are those of the state left
   pub run-done : runTest w steps ≡ true → (x : List ℕ) → Words 41 x → stateOf x ≡ afterAll (stateOf w) (stepsOf steps) → x ≡ ran w steps answers .words
   unfolding ran
-  run-done e x t p = rw e (sym (words-back x t) ∙ ap wordsOf p)
+  run-done e x t p = rw e (state-words x t p)
 
   pub run-told : runTest w steps ≡ true → anyRemaps (stateOf w) (stepsOf steps) ≡ ran w steps answers .remap
   unfolding ran

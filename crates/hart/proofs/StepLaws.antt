@@ -11,7 +11,7 @@ use Rattle.protection.specs.Same.{samePmp}
 use Rattle.state.specs.declared.State.{State}
 use Rattle.state.specs.Hold.{canHold}
 use Rattle.state.specs.Words.{wordsOf, stateOf}
-use Rattle.state.proofs.Back.{state-back}
+use Rattle.state.proofs.Back.{words-state}
 use Rattle.map.specs.declared.Map.{Map}
 use Rattle.engine.specs.declared.Taken.{Taken}
 use Rattle.engine.specs.Effects.{isReset, ruledBy, stepRule}
@@ -51,15 +51,12 @@ step-parts h map step = go (isReset step) refl
 module _ (h : Hart) (map : Map) (step : Step) (typed : Arrays (h .state .pmp)) {held : Bool} (eh : held ≡ canHold (h .state))
     {w : List ℕ} (ew : w ≡ wordsOf (h .state)) {t : Taken} (et : t ≡ stepTaken held (stateOf w) step) {s : State}
     (es : s ≡ ruledBy held (stateOf w) step .state) where
-  given : stateOf w ≡ h .state
-  given = ap stateOf ew ∙ state-back (h .state) typed
-
   state-is : s ≡ stepRule (h .state) step .state
   unfolding stepRule
-  state-is = es ∙ (λ j. ruledBy (eh j) (given j) step .state)
+  state-is = es ∙ (λ j. ruledBy (eh j) (words-state (h .state) typed ew j) step .state)
 
   taken-is : t ≡ stepTaken (canHold (h .state)) (h .state) step
-  taken-is = et ∙ (λ j. stepTaken (eh j) (given j) step)
+  taken-is = et ∙ (λ j. stepTaken (eh j) (words-state (h .state) typed ew j) step)
 
   answer-is : t .answer ≡ stepRule (h .state) step .answer
   unfolding stepRule stepTaken

@@ -1,6 +1,6 @@
 -- A state and its words turn into each other without loss. Assumes nothing.
 use Prim.Native.Nat.{ℕ}
-use mathlib.Core.Path.{_≡_, refl, _∙_}
+use mathlib.Core.Path.{_≡_, sym, ap, _∙_}
 use mathlib.Core.List.{List, _∷_, _++_}
 use lib.ListN.{getD}
 use Rattle.bits.specs.Lists.{elements, Words}
@@ -28,3 +28,11 @@ state-back s t =
       registers = s .registers;
       pmp = record { cfgs = configs-back (s .pmp .cfgs) (t .cfgs) (t .bytes) j; addrs = elements-are (s .pmp .addrs) 16 0 (t .addrs) j };
     }
+
+-- the same, from words that are known to be the state's
+pub words-state : (s : State) → Arrays (s .pmp) → {w : List ℕ} → w ≡ wordsOf s → stateOf w ≡ s
+words-state s t e = ap stateOf e ∙ state-back s t
+
+-- 41 words are those of their state
+pub state-words : (w : List ℕ) {s : State} → Words 41 w → stateOf w ≡ s → w ≡ wordsOf s
+state-words w t e = sym (words-back w t) ∙ ap wordsOf e

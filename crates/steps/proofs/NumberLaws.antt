@@ -1,5 +1,5 @@
 -- Steps from the numbers of a list, three at a time. Assumes nothing.
-use Prim.Native.Nat.{ℕ, zero, suc, _+_, _-_, _≤_, _<_}
+use Prim.Native.Nat.{ℕ, suc, _+_, _-_, _≤_, _<_}
 use mathlib.Core.Path.{_≡_, refl, sym, ap, _∙_}
 use mathlib.Core.Bool.{Bool, true, false, cond, _&&_, false≢true}
 use mathlib.Core.List.{List, [], _∷_}
@@ -11,8 +11,8 @@ use borrow.Author.Tests.{eqb-true, eqb-false, leb-true, eq-eqb, ne-eqb}
 use Rattle.bits.proofs.Conjunction.{both}
 use Rattle.steps.specs.declared.Step.{Step}
 use Rattle.steps.specs.declared.Decoded.{Decoded}
-use Rattle.steps.specs.declared.Decoded.the-variants.{Formed, Nothing}
-use Rattle.steps.specs.Decode.{decoded, prepended, stepsOf, nameSteps}
+use Rattle.steps.specs.declared.Decoded.the-variants.{Formed}
+use Rattle.steps.specs.Decode.{decoded, stepsOf, nameSteps}
 
 three : (l : List ℕ) (i : ℕ) → i + 3 ≤ length l
     → drop i l ≡ getD l i 0 ∷ getD l (i + 1) 0 ∷ getD l (i + 2) 0 ∷ drop (i + 3) l

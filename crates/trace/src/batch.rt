@@ -33,9 +33,7 @@ fn handed_back(words: [u64; 41], remap: bool, map: Map, number: u64, stopped: bo
     };
     if remap {
         let pmp = state.pmp;
-        let cfgs = pmp.cfgs;
-        let addrs = pmp.addrs;
-        left.map = map::compile(cfgs, addrs);
+        left.map = hart::map_for(pmp);
     }
     left
 }

@@ -11,7 +11,7 @@ ghost use mathlib.Core.Path.{_≡_};
 ghost use Prim.Native.Nat.{_+_, _≤_};
 ghost use lib.ListN.{length};
 ghost use Rattle.map.specs.Lookup.{rangesIn};
-ghost use Rattle.trace.specs.Buffers.{Put, writtenTo, writtenLength};
+ghost use Rattle.trace.specs.Buffers.{Put, writtenFront, writtenLength};
 ghost use Rattle.trace.specs.Endings.{stateText, ownerText, rangeLine, rangeLines, ending, leftOver};
 
 fn put_state(hart: Hart, out: &mut [u8]) -> usize
@@ -73,7 +73,7 @@ pub fn left_over(stopped: bool, came: usize) -> usize
 // Writes the saved text of the end state, the ranges of the map and the bytes left over to the front of a buffer of at least 4,096 bytes.
 pub fn write_ending(replay: Replay, left: u64, out: &mut [u8]) -> usize
     ensures { λ r. ⌜ r ≡ writtenLength 4096 (ending replay left) (now (out .entry)) ⌝ }
-    ensures { λ _. ⌜ now (out .exit) ≡ writtenTo 4096 (ending replay left) (now (out .entry)) ⌝ }
+    ensures { λ _. ⌜ now (out .exit) ≡ writtenFront 4096 (ending replay left) (now (out .entry)) ⌝ }
     ensures { λ r. ⌜ r ≤ length (now (out .entry)) ⌝ }
 {
     if out.len() < 4096 {

@@ -7,7 +7,7 @@ ghost use mathlib.Core.List.{_++_};
 ghost use Prim.Native.Nat.{_+_, _≤_};
 ghost use lib.ListN.{length};
 ghost use Rattle.lines.specs.Lines.{hexDigits};
-ghost use Rattle.trace.specs.Buffers.{Put, writtenTo, writtenLength};
+ghost use Rattle.trace.specs.Buffers.{Put, writtenFront, writtenLength};
 ghost use Rattle.trace.specs.Answers.{decimal, numberedLine, trapText, levelText, answerLine, brokenLine};
 ghost use Rattle.steps.specs.declared.Answer.the-variants.{DoneValue, DoneFlag, Trapped};
 
@@ -139,7 +139,7 @@ pub(crate) fn put_broken(number: u64, out: &mut [u8], place: usize) -> usize
 // Writes the line of an answer to the front of a buffer of at least 64 bytes.
 pub fn write_answer(answer: Answer, out: &mut [u8]) -> usize
     ensures { λ r. ⌜ r ≡ writtenLength 64 (answerLine answer) (now (out .entry)) ⌝ }
-    ensures { λ _. ⌜ now (out .exit) ≡ writtenTo 64 (answerLine answer) (now (out .entry)) ⌝ }
+    ensures { λ _. ⌜ now (out .exit) ≡ writtenFront 64 (answerLine answer) (now (out .entry)) ⌝ }
     ensures { λ r. ⌜ r ≤ length (now (out .entry)) ⌝ }
 {
     if out.len() < 64 {

@@ -36,11 +36,11 @@ returns c =
 returns-2 : tie.Need-returns-2
 returns-2 c =
     let k = c .before in
-    let i = k .before .before .before .before in
+    let i = k .before .before in
     let a = i .before .before .before .before .before .before .before .before .before .before .before .before .args in
     c .query2 .ensures
     ∙ ap (λ (l : Mapped). queryAnswer (l .hart) (l .map) (a .mode) (a .access) (a .address) (a .size))
-    (left (i .before) true (not-false _ (i .if1 .left)) (k .compile .result) (k .compile .ensures))
+    (left (i .before) true (not-false _ (i .if1 .left)) (k .map-for .result) (k .map-for .ensures))
 
 pub query-after-spec : {M : Type 1} → statement M
 query-after-spec =

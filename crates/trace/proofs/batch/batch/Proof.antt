@@ -6,7 +6,8 @@ use borrow.Author.Needs.{needs}
 use Rattle.state.specs.Hold.{canHold}
 use Rattle.state.specs.Words.{stateOf}
 use Rattle.trace.specs.Batches.{carried}
-use Rattle.trace.proofs.Batching.{given, begun, held-next, Turn, read-here, turn-start, turn-formed, turn-broken}
+use Rattle.state.proofs.Back.{words-state}
+use Rattle.trace.proofs.Batching.{begun, held-next, Turn, read-here, turn-start, turn-formed, turn-broken}
 use Rattle.trace.proofs.Batching.{stopped-still, none-still, batch-returned, batch-stopped}
 use Rattle.trace.proofs.batch.batch.Statement.{statement}
 use Rattle.trace.proofs.batch.batch.Tie as tie
@@ -38,7 +39,7 @@ loop-holds c =
     let s = a .start in (
       turn-start (a .input .now) (a .out .now) (counted w .least .result) (carried (stateOf (w .to-words .result)) false (s .map) (s .number) false)
           (counted w .least .ensures),
-      w .before .can-hold .ensures ∙ ap canHold (sym (given (s .hart .state) (w .before .before .typed .ensures) (w .to-words .ensures))),
+      w .before .can-hold .ensures ∙ ap canHold (sym (words-state (s .hart .state) (w .before .before .typed .ensures) (w .to-words .ensures))),
     )
 
 returns-2 : tie.Need-returns-2 Inv-loop μ-loop

@@ -9,10 +9,10 @@ use Rattle.trace.proofs.batch.handed_back.Tie as tie
 
 returns : tie.Need-returns
 returns c =
-    let i = c .before .before .before .before in
+    let i = c .before .before in
     let e = i .before .of-words .ensures in
     let a = i .before .before .args in
-    let m = c .compile .ensures ∙ ap (λ (x : State). mapFor (x .pmp)) e in
+    let m = c .map-for .ensures ∙ ap (λ (x : State). mapFor (x .pmp)) e in
     (λ j. record { hart = hartWith (e j); map = m j; number = a .number; stopped = a .stopped })
     ∙ (λ j. carried (stateOf (a .words)) (sym (i .if1 .taken) j) (a .map) (a .number) (a .stopped))
 
