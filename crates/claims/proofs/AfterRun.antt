@@ -15,10 +15,8 @@ use Rattle.pmp.specs.declared.Decision.the-variants.{Refused}
 use Rattle.steps.specs.declared.Step.{Step}
 use Rattle.steps.specs.Number.{refusalOf}
 use Rattle.steps.specs.Decode.{stepsOf, nameSteps}
-use Rattle.protection.specs.Arrays.{Arrays}
 use Rattle.state.specs.declared.State.{State}
-use Rattle.state.specs.Words.{wordsOf}
-use Rattle.state.proofs.Back.{state-back}
+use Rattle.state.specs.Words.{wordsOf, stateOf}
 use Rattle.map.specs.declared.Map.{Map}
 use Rattle.engine.specs.Runs.{afterAll, answersOf, anyRemaps, Ran, ran}
 use Rattle.hart.specs.declared.Hart.{Hart}
@@ -40,9 +38,9 @@ words-count : (s : State) → eqb (length (wordsOf s)) 41 ≡ true
 unfolding wordsOf elements
 words-count s = refl
 
-run-leaves : (s : State) → Arrays (s .pmp) → (numbers answers : List ℕ) → Leaves s (stepsIn numbers) (ran (wordsOf s) numbers answers)
+run-leaves : (s : State) → stateOf (wordsOf s) ≡ s → (numbers answers : List ℕ) → Leaves s (stepsIn numbers) (ran (wordsOf s) numbers answers)
 unfolding ran fold anyStep
-run-leaves s typed numbers answers = rw (words-count s, state-back s typed) (go (nameSteps numbers))
+run-leaves s e numbers answers = rw (words-count s, e) (go (nameSteps numbers))
   where
     go : (b : Bool)
         → Leaves s (cond b (stepsOf numbers) [])
@@ -59,10 +57,10 @@ run-leaves s typed numbers answers = rw (words-count s, state-back s typed) (go 
 
 -- ---- the hart and map left, from what the engine gave on the words of the state
 
-module _ (h : Hart) (map : Map) (numbers : List ℕ) (typed : Arrays (h .state .pmp)) {w : List ℕ} (ew : w ≡ wordsOf (h .state)) (answers : List ℕ)
+module _ (h : Hart) (map : Map) (numbers : List ℕ) {w : List ℕ} (ew : w ≡ wordsOf (h .state)) (ed : stateOf w ≡ h .state) (answers : List ℕ)
     {r : Bool} (er : r ≡ ran w numbers answers .remap) {s : State} (es : s ≡ ran w numbers answers .state) where
   leaves : Leaves (h .state) (stepsIn numbers) (ran w numbers answers)
-  leaves = rw ew (run-leaves (h .state) typed numbers answers)
+  leaves = rw ew (run-leaves (h .state) (ap stateOf (sym ew) ∙ ed) numbers answers)
 
   state-is : s ≡ afterAll (h .state) (stepsIn numbers)
   state-is = es ∙ leaves .0

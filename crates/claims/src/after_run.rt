@@ -23,8 +23,6 @@ fn query_after(
     ensures { λ r. ⌜ r ≡ queryAfter (with hart map) (stepsIn (now (steps .entry))) mode access address size ⌝ }
 {
     let state = hart.state;
-    let pmp = state.pmp;
-    protection::typed(pmp);
     let mut words = state::to_words(state);
     let mut answers = [0u64; 1];
     let remap = engine::run(&mut words, steps, &mut answers);

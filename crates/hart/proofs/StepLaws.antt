@@ -6,12 +6,10 @@ use mathlib.Core.List.{List}
 use borrow.Author.Tests.{not-true, not-false}
 use Rattle.steps.specs.declared.Step.{Step}
 use Rattle.steps.specs.declared.Step.the-variants.{Reset}
-use Rattle.protection.specs.Arrays.{Arrays}
 use Rattle.protection.specs.Same.{samePmp}
 use Rattle.state.specs.declared.State.{State}
 use Rattle.state.specs.Hold.{canHold}
-use Rattle.state.specs.Words.{wordsOf, stateOf}
-use Rattle.state.proofs.Back.{words-state}
+use Rattle.state.specs.Words.{stateOf}
 use Rattle.map.specs.declared.Map.{Map}
 use Rattle.engine.specs.declared.Taken.{Taken}
 use Rattle.engine.specs.Effects.{isReset, ruledBy, stepRule}
@@ -48,15 +46,15 @@ step-parts h map step = go (isReset step) refl
 
 -- ---- from what the engine gave on the words of the state
 
-module _ (h : Hart) (map : Map) (step : Step) (typed : Arrays (h .state .pmp)) {held : Bool} (eh : held ≡ canHold (h .state))
-    {w : List ℕ} (ew : w ≡ wordsOf (h .state)) {t : Taken} (et : t ≡ stepTaken held (stateOf w) step) {s : State}
+module _ (h : Hart) (map : Map) (step : Step) {held : Bool} (eh : held ≡ canHold (h .state))
+    (w : List ℕ) (ew : stateOf w ≡ h .state) {t : Taken} (et : t ≡ stepTaken held (stateOf w) step) {s : State}
     (es : s ≡ ruledBy held (stateOf w) step .state) where
   state-is : s ≡ stepRule (h .state) step .state
   unfolding stepRule
-  state-is = es ∙ (λ j. ruledBy (eh j) (words-state (h .state) typed ew j) step .state)
+  state-is = es ∙ (λ j. ruledBy (eh j) (ew j) step .state)
 
   taken-is : t ≡ stepTaken (canHold (h .state)) (h .state) step
-  taken-is = et ∙ (λ j. stepTaken (eh j) (words-state (h .state) typed ew j) step)
+  taken-is = et ∙ (λ j. stepTaken (eh j) (ew j) step)
 
   answer-is : t .answer ≡ stepRule (h .state) step .answer
   unfolding stepRule stepTaken

@@ -43,8 +43,6 @@ impl Hart {
         ensures { λ r. ⌜ r ≡ stepped self map step ⌝ }
     {
         let state = self.state;
-        let pmp = state.pmp;
-        protection::typed(pmp);
         let held = state::can_hold(state);
         let mut words = state::to_words(state);
         let taken = engine::step(&mut words, held, step);

@@ -201,7 +201,10 @@ pub fn store(state: State, words: &mut [u64])
 
 pub fn to_words(state: State) -> [u64; 41]
     ensures { λ r. ⌜ r ≡ wordsOf state ⌝ }
+    ensures { λ r. ⌜ stateOf r ≡ state ⌝ }
 {
+    let pmp = state.pmp;
+    protection::typed(pmp);
     let mut words = [0u64; 41];
     store(state, &mut words);
     words

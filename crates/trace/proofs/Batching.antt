@@ -11,11 +11,9 @@ use Rattle.bits.specs.Fold.{fold, outputs, anyStep}
 use Rattle.steps.specs.declared.Step.{Step}
 use Rattle.steps.specs.declared.Decoded.{Decoded}
 use Rattle.steps.specs.declared.Decoded.the-variants.{Formed, Nothing}
-use Rattle.protection.specs.Arrays.{Arrays}
 use Rattle.state.specs.declared.State.{State}
 use Rattle.state.specs.Hold.{canHold}
-use Rattle.state.specs.Words.{wordsOf, stateOf}
-use Rattle.state.proofs.Back.{words-state}
+use Rattle.state.specs.Words.{stateOf}
 use Rattle.map.specs.declared.Map.{Map}
 use Rattle.engine.specs.declared.Taken.{Taken}
 use Rattle.engine.specs.Effects.{ruledBy, stepRule}
@@ -86,9 +84,9 @@ lines-length (suc n) r t =
 
 -- ---- a step on the words
 
-pub begun : (r : Replay) (w : List ℕ) → r .stopped ≡ false → Arrays (r .hart .state .pmp) → w ≡ wordsOf (r .hart .state)
+pub begun : (r : Replay) (w : List ℕ) → r .stopped ≡ false → stateOf w ≡ r .hart .state
     → carried (stateOf w) false (r .map) (r .number) false ≡ r
-begun r w h t e = λ j. record { hart = hartWith (words-state (r .hart .state) t e j); map = r .map; number = r .number; stopped = sym h j }
+begun r w h e = λ j. record { hart = hartWith (e j); map = r .map; number = r .number; stopped = sym h j }
 
 module _ (s : State) (step : Step) {x : State} {held : Bool} {t : Taken} (h : held ≡ canHold s) (e : t ≡ stepTaken held s step)
     (f : x ≡ ruledBy held s step .state) where

@@ -54,8 +54,6 @@ pub fn batch(input: &[u8], out: &mut [u8], start: Replay) -> Written
     let mut left = least(input.len() / 60, out.len() / 64);
     let hart = start.hart;
     let state = hart.state;
-    let pmp = state.pmp;
-    protection::typed(pmp);
     let mut held = state::can_hold(state);
     let mut words = state::to_words(state);
     let map = start.map;

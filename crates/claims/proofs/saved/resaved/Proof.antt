@@ -23,7 +23,7 @@ returns-2 c =
     let a = e .before .before .args in
     let ws = w .to-words .result in
     let below : (i : ℕ) → getD ws i 0 < 2 ^ 64 = λ i. (let f : Fits w64 (getD ws i 0) = search needs in f .fits) in
-    let t : Typed (a .hart .state) = record { arrays = y .typed .ensures; words = rw (w .to-words .ensures) at below } in
+    let t : Typed (a .hart .state) = record { arrays = y .typed .ensures; words = rw (w .to-words .ensures .0) at below } in
     resaved-by (a .hart) (a .map) _ t (sym (e .before .can-hold .ensures) ∙ not-false _ (e .if1 .left)) refl
     (s .save .ensures .1) (c .restore .ensures)
 

@@ -25,7 +25,7 @@ saved c r q =
     let e = o .before .before in
     let a = e .before .before .before .args in
     let p = sym (e .before .can-hold .ensures) ∙ not-false _ (e .if1 .left) in
-    (rw (p, ← w .write .ensures .0, q), rw p (w .write .ensures .1 ∙ ap (λ (x : List ℕ). writtenTo x (a .buffer .now)) (o .to-words .ensures)))
+    (rw (p, ← w .write .ensures .0, q), rw p (w .write .ensures .1 ∙ ap (λ (x : List ℕ). writtenTo x (a .buffer .now)) (o .to-words .ensures .0)))
 
 returns-2 : tie.Need-returns-2
 returns-2 c = saved (c .before) true (c .if2 .taken)

@@ -10,9 +10,8 @@ returns c =
     let g = f .before in
     let w = g .before .before in
     let k = w .before in
-    let t = k .before in
-    let a = t .before .before .before .args in
-    map-stays (a .self) (a .map) (a .step) (t .typed .ensures) (k .can-hold .ensures) (w .to-words .ensures) (g .step .ensures .0) (f .of-words .ensures ∙ g .step .ensures .1) (c .if1 .taken)
+    let a = k .before .before .args in
+    map-stays (a .self) (a .map) (a .step) (k .can-hold .ensures) (w .to-words .result) (w .to-words .ensures .1) (g .step .ensures .0) (f .of-words .ensures ∙ g .step .ensures .1) (c .if1 .taken)
 
 returns-2 : tie.Need-returns-2
 returns-2 c =
@@ -21,15 +20,13 @@ returns-2 c =
     let g = f .before in
     let w = g .before .before in
     let k = w .before in
-    let t = k .before in
-    let a = t .before .before .before .args in
-    map-anew (a .self) (a .map) (a .step) (t .typed .ensures) (k .can-hold .ensures) (w .to-words .ensures) (g .step .ensures .0) (f .of-words .ensures ∙ g .step .ensures .1) (i .if1 .left) (c .map-for .ensures)
+    let a = k .before .before .args in
+    map-anew (a .self) (a .map) (a .step) (k .can-hold .ensures) (w .to-words .result) (w .to-words .ensures .1) (g .step .ensures .0) (f .of-words .ensures ∙ g .step .ensures .1) (i .if1 .left) (c .map-for .ensures)
 
 pub step-spec : {M : Type 1} → statement M
 step-spec =
     tie.close
     (tie.spec
-    (λ c κs. search needs)
     (λ c κs. search needs)
     (λ c κs. search needs)
     (λ c κs. search needs)

@@ -6,7 +6,6 @@ use borrow.Author.Needs.{needs}
 use Rattle.state.specs.Hold.{canHold}
 use Rattle.state.specs.Words.{stateOf}
 use Rattle.trace.specs.Batches.{carried}
-use Rattle.state.proofs.Back.{words-state}
 use Rattle.trace.proofs.Batching.{begun, held-next, Turn, read-here, turn-start, turn-formed, turn-broken}
 use Rattle.trace.proofs.Batching.{stopped-still, none-still, batch-returned, batch-stopped}
 use Rattle.trace.proofs.batch.batch.Statement.{statement}
@@ -22,7 +21,7 @@ abbrev μ-loop : tie.MeasureT-loop
 
 -- where the records were counted, and where the call began, from where the words were made
 abbrev counted : tie.After-to-words Inv-loop μ-loop → tie.After-least Inv-loop μ-loop
-counted w = w .before .before .before .before .before .before
+counted w = w .before .before .before .before
 
 abbrev first : tie.After-to-words Inv-loop μ-loop → tie.Start Inv-loop μ-loop
 first w = counted w .before .before .before .before
@@ -39,7 +38,7 @@ loop-holds c =
     let s = a .start in (
       turn-start (a .input .now) (a .out .now) (counted w .least .result) (carried (stateOf (w .to-words .result)) false (s .map) (s .number) false)
           (counted w .least .ensures),
-      w .before .can-hold .ensures ∙ ap canHold (sym (words-state (s .hart .state) (w .before .before .typed .ensures) (w .to-words .ensures))),
+      w .before .can-hold .ensures ∙ ap canHold (sym (w .to-words .ensures .1)),
     )
 
 returns-2 : tie.Need-returns-2 Inv-loop μ-loop
@@ -55,7 +54,7 @@ returns-2 c =
     let turn = turn-broken (stateOf (o .words)) (o .remap) (a .start .map) (o .number) (o .inv .0) (r .before .before .loop-test .taken)
     (read-here (a .input .now) (o .at) (r .read-step .ensures) ∙ t .enum-told .given .1) (b .put-broken .ensures) in
     batch-returned turn (a .start) (c .handed-back .result)
-    (begun (a .start) (w .to-words .result) (n .before .if1 .left) (w .before .before .typed .ensures) (w .to-words .ensures))
+    (begun (a .start) (w .to-words .result) (n .before .if1 .left) (w .to-words .ensures .1))
     (c .handed-back .ensures) (n .least .ensures) (stopped-still _ refl _)
 
 loop-again : tie.Need-loop-again Inv-loop μ-loop
@@ -83,7 +82,7 @@ returns-3 c =
     let a = first w .args in
     let n = counted w in
     batch-returned (o .inv .0) (a .start) (c .handed-back2 .result)
-    (begun (a .start) (w .to-words .result) (n .before .if1 .left) (w .before .before .typed .ensures) (w .to-words .ensures))
+    (begun (a .start) (w .to-words .result) (n .before .if1 .left) (w .to-words .ensures .1))
     (c .handed-back2 .ensures) (n .least .ensures) (none-still (o .left) _ (drop (o .at) (a .input .now)) (c .before .loop-test .left))
 
 pub batch-spec : {M : Type 1} → statement M
@@ -93,7 +92,6 @@ batch-spec =
     Inv-loop
     μ-loop
     returns
-    (λ c κs. search needs)
     (λ c κs. search needs)
     (λ c κs. search needs)
     (λ c κs. search needs)
