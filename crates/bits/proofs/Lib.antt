@@ -4,3 +4,5 @@ pub mod BitLaws
 pub mod BitSolve
 pub mod Within
 pub mod SameLaws
+pub mod ListLaws
+pub mod FoldLaws

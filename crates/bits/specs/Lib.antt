@@ -1,3 +1,5 @@
 -- The definitions that the contracts cite.
 pub mod Mask
 pub mod Same
+pub mod Lists
+pub mod Fold

@@ -10,8 +10,7 @@ use Rattle.bits.proofs.Conjunction.{both}
 use Rattle.pmp.specs.declared.Mode.{Mode}
 use Rattle.pmp.specs.declared.Access.{Access}
 use Rattle.pmp.specs.declared.Decision.{Decision}
-use Rattle.registers.specs.Hold.{isMode}
-use Rattle.registers.specs.Effective.{modeOf}
+use Rattle.pmp.specs.Number.{isMode, modeOf}
 use Rattle.map.specs.declared.Range.{Range}
 use Rattle.map.specs.declared.Map.{Map}
 use Rattle.map.specs.declared.Found.{Found}
@@ -21,10 +20,12 @@ use Rattle.map.proofs.LookupLaws.{found-holds}
 use Rattle.map.proofs.QueryLaws.{one-range}
 use Rattle.hart.specs.declared.Hart.{Hart}
 use Rattle.hart.specs.Queries.{queryAnswer}
-use Rattle.hart.specs.Saved.{hartOf}
+use Rattle.state.specs.declared.State.{State}
+use Rattle.state.specs.Slices.{loaded}
+use Rattle.state.proofs.SliceLaws.{all-loaded}
+use Rattle.hart.specs.Steps.{hartWith}
 use Rattle.capi.specs.MapWords.{mapOfWords}
-use Rattle.capi.specs.Answers.{decisionWords}
-use Rattle.capi.specs.Calls.{fits, accessOf, mapWith, queryable, queryResult, queryAnswered}
+use Rattle.capi.specs.Calls.{hartOf, fits, accessOf, mapWith, decisionWords, queryable, queryResult, queryAnswered}
 use Rattle.capi.proofs.CallLaws.{fitting}
 
 -- a map with the range that was found has the same range there
@@ -38,14 +39,15 @@ same-answer : (h : Hart) (m n : Map) (mode : Mode) (access : Access) (address si
     → findRange (rangesIn m) address ≡ findRange (rangesIn n) address
     → queryAnswer h m mode access address size ≡ queryAnswer h n mode access address size
 unfolding queryAnswer
-same-answer h m n mode access address size e = rw (one-range (h .pmp .cfgs) (h .pmp .cfgs) m n mode access address size refl e)
+same-answer h m n mode access address size e = rw (one-range (h .state .pmp .cfgs) (h .state .pmp .cfgs) m n mode access address size refl e)
 
-pub asked : (w v : List ℕ) (mode kind address size : ℕ) {h : Hart} {f : Found} {m : Map} {effective : Mode} {access : Access} {d : Decision}
-    → h ≡ hartOf w → f ≡ findRange (rangesIn (mapOfWords v)) address → m ≡ mapWith f → effective ≡ modeOf mode → access ≡ accessOf kind
-    → d ≡ queryAnswer h m effective access address size
+-- a query on the range that was found, of the state of the words
+pub answered : (w v : List ℕ) → length w ≡ 41 → (mode kind address size : ℕ) {s : State} {f : Found} {m : Map} {effective : Mode} {access : Access} {d : Decision}
+    → s ≡ loaded w → f ≡ findRange (rangesIn (mapOfWords v)) address → m ≡ mapWith f → effective ≡ modeOf mode → access ≡ accessOf kind
+    → d ≡ queryAnswer (hartWith s) m effective access address size
     → d ≡ queryAnswer (hartOf w) (mapOfWords v) (modeOf mode) (accessOf kind) address size
-asked w v mode kind address size {f = f} eh ef em ee ea ed =
-    ed ∙ (λ j. queryAnswer (eh j) (em j) (ee j) (ea j) address size)
+answered w v fit mode kind address size {f = f} es ef em ee ea ed =
+    ed ∙ (λ j. queryAnswer (hartWith ((es ∙ all-loaded w fit) j)) (em j) (ee j) (ea j) address size)
     ∙ same-answer (hartOf w) (mapWith f) (mapOfWords v) (modeOf mode) (accessOf kind) address size
     (with-found (rangesIn (mapOfWords v)) address f (sym ef) ∙ ef)
 

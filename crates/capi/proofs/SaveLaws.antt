@@ -4,22 +4,26 @@ use mathlib.Core.Path.{_≡_, refl, sym, ap, _∙_}
 use mathlib.Core.Bool.{Bool, true, false, cond}
 use mathlib.Core.List.{List}
 use native.Mathlib.Omega.{arith}
-use lib.Dec.{eqb}
 use lib.ListN.{length}
 use borrow.Author.Tests.{ne-eqb}
+use Rattle.bits.specs.Lists.{Words}
+use Rattle.steps.specs.declared.Answer.{Answer}
+use Rattle.steps.specs.declared.Answer.the-variants.{Refused}
+use Rattle.steps.specs.Number.{refusalOf}
+use Rattle.state.specs.declared.State.{State}
+use Rattle.state.specs.Hold.{canHold}
+use Rattle.state.specs.Words.{wordsOf, stateOf}
+use Rattle.state.specs.Slices.{loaded, stored}
+use Rattle.state.proofs.Back.{words-back}
+use Rattle.state.proofs.SliceLaws.{all-loaded, all-stored}
 use Rattle.map.specs.declared.Map.{Map}
-use Rattle.lines.proofs.Back.{Words}
 use Rattle.text.specs.Text.{readText}
-use Rattle.words.proofs.Back.{words-back}
-use Rattle.trap.specs.declared.Answer.{Answer}
 use Rattle.hart.specs.declared.Hart.{Hart}
 use Rattle.hart.specs.declared.Stepped.{Stepped}
-use Rattle.hart.specs.Effects.{canHold, refused}
-use Rattle.hart.specs.Steps.{handedBack}
-use Rattle.hart.specs.Saved.{hartOf, savedAnswer, savedBuffer, restoredDone, restoredWords, restored}
-use Rattle.hart.specs.Refusals.{refusalOf}
+use Rattle.hart.specs.Steps.{hartWith, handedBack}
+use Rattle.hart.specs.Saved.{savedAnswer, savedBuffer, restoredDone, restoredWords, restored}
 use Rattle.capi.specs.MapWords.{mapOfWords, mapWords}
-use Rattle.capi.specs.Calls.{hartWords, fits, emptyMap, misfit, saveResult, savedText, readBack, restoreResult, restoredHart, restoredMap}
+use Rattle.capi.specs.Calls.{hartOf, fits, misfit, saveResult, savedText, readBack, restoreResult, restoredHart, restoredMap}
 use Rattle.capi.proofs.MapWords.{map-words-back}
 use Rattle.capi.proofs.CallLaws.{fitting}
 
@@ -28,60 +32,53 @@ module _ (hart text : List ℕ) where
   unfolding saveResult savedText
   not-saved n = (rw (ne-eqb (length hart) 41 n), rw (ne-eqb (length hart) 41 n))
 
-  module _ (e : length hart ≡ 41) where
-    pub saved-number : {h : Hart} {a : Answer} {r : ℕ} → h ≡ hartOf hart → a ≡ savedAnswer h text → r ≡ refusalOf a → r ≡ saveResult hart text
-    unfolding saveResult
-    saved-number eh ea er = rw e (er ∙ ap refusalOf (ea ∙ ap (λ (x : Hart). savedAnswer x text) eh))
+  module _ (e : length hart ≡ 41) {s : State} (es : s ≡ loaded hart) where
+    hart-is : hartWith s ≡ hartOf hart
+    hart-is = ap (λ (x : State). hartWith x) (es ∙ all-loaded hart e)
 
-    pub saved-bytes : {h : Hart} {b : List ℕ} → h ≡ hartOf hart → b ≡ savedBuffer h text → b ≡ savedText hart text
+    pub saved-number : {a : Answer} {r : ℕ} → a ≡ savedAnswer (hartWith s) text → r ≡ refusalOf a → r ≡ saveResult hart text
+    unfolding saveResult
+    saved-number ea er = rw e (er ∙ ap refusalOf (ea ∙ ap (λ (x : Hart). savedAnswer x text) hart-is))
+
+    pub saved-bytes : {b : List ℕ} → b ≡ savedBuffer (hartWith s) text → b ≡ savedText hart text
     unfolding savedText
-    saved-bytes eh eb = rw e (eb ∙ ap (λ (x : Hart). savedBuffer x text) eh)
+    saved-bytes eb = rw e (eb ∙ ap (λ (x : Hart). savedBuffer x text) hart-is)
 
 -- ---- reading back
 
-module _ (h : Hart) (text : List ℕ) where
-  -- the answer does not hang on the map that was given; a refusal leaves hart and map, and where there is none no map was looked at
-  pub read-answer : (m n : Map) → restored h m text .answer ≡ restored h n text .answer
-  unfolding restored restoredWords
-  read-answer m n = go (readText text .ok) (canHold (hartOf (readText text .words)))
-    where
-      g : Hart
-      g = hartOf (readText text .words)
+-- what a text is read as, by its form and whether its state can be held
+abbrev read : Hart → Map → State → Bool → Bool → Stepped
+read h m s a b = cond a (cond b (restoredDone s) (handedBack h m (Refused 5))) (handedBack h m (Refused 4))
 
-      go : (a b : Bool)
-          → cond a (cond b (restoredDone g) (handedBack m (refused h 5))) (handedBack m (refused h 4)) .answer
-          ≡ cond a (cond b (restoredDone g) (handedBack n (refused h 5))) (handedBack n (refused h 4)) .answer
+module _ (g h : Hart) (m n : Map) (text : List ℕ) where
+  -- the answer does not hang on the hart and the map that were given
+  pub read-answer : restored g m text .answer ≡ restored h n text .answer
+  unfolding restored restoredWords
+  read-answer = go (readText text .ok) (canHold (stateOf (readText text .words)))
+    where
+      go : (a b : Bool) → read g m (stateOf (readText text .words)) a b .answer ≡ read h n (stateOf (readText text .words)) a b .answer
       go true true = refl
       go true false = refl
       go false b = refl
 
-  pub read-done : (m n : Map) → refusalOf (restored h m text .answer) ≡ 0 → restored h m text ≡ restored h n text
+  -- where there is no refusal, nor does what is read
+  pub read-done : refusalOf (restored g m text .answer) ≡ 0 → restored g m text ≡ restored h n text
   unfolding restored restoredWords
-  read-done m n = go (readText text .ok) (canHold (hartOf (readText text .words)))
+  read-done = go (readText text .ok) (canHold (stateOf (readText text .words)))
     where
-      g : Hart
-      g = hartOf (readText text .words)
-
-      go : (a b : Bool)
-          → refusalOf (cond a (cond b (restoredDone g) (handedBack m (refused h 5))) (handedBack m (refused h 4)) .answer) ≡ 0
-          → cond a (cond b (restoredDone g) (handedBack m (refused h 5))) (handedBack m (refused h 4))
-          ≡ cond a (cond b (restoredDone g) (handedBack n (refused h 5))) (handedBack n (refused h 4))
+      go : (a b : Bool) → refusalOf (read g m (stateOf (readText text .words)) a b .answer) ≡ 0
+          → read g m (stateOf (readText text .words)) a b ≡ read h n (stateOf (readText text .words)) a b
       go true true e = refl
       go true false e = absurd (omega (arith, e))
       go false b e = absurd (omega (arith, e))
 
-  pub read-refused : (m n : Map) → (refusalOf (restored h m text .answer) ≡ 0 → ⊥)
-      → (restored h n text .hart ≡ h) × (restored h n text .map ≡ n)
+  -- a refusal leaves hart and map
+  pub read-refused : (refusalOf (restored g m text .answer) ≡ 0 → ⊥) → (restored h n text .hart ≡ h) × (restored h n text .map ≡ n)
   unfolding restored restoredWords
-  read-refused m n = go (readText text .ok) (canHold (hartOf (readText text .words)))
+  read-refused = go (readText text .ok) (canHold (stateOf (readText text .words)))
     where
-      g : Hart
-      g = hartOf (readText text .words)
-
-      go : (a b : Bool)
-          → (refusalOf (cond a (cond b (restoredDone g) (handedBack m (refused h 5))) (handedBack m (refused h 4)) .answer) ≡ 0 → ⊥)
-          → (cond a (cond b (restoredDone g) (handedBack n (refused h 5))) (handedBack n (refused h 4)) .hart ≡ h)
-          × (cond a (cond b (restoredDone g) (handedBack n (refused h 5))) (handedBack n (refused h 4)) .map ≡ n)
+      go : (a b : Bool) → (refusalOf (read g m (stateOf (readText text .words)) a b .answer) ≡ 0 → ⊥)
+          → (read h n (stateOf (readText text .words)) a b .hart ≡ h) × (read h n (stateOf (readText text .words)) a b .map ≡ n)
       go true true e = absurd (e refl)
       go true false e = (refl, refl)
       go false b e = (refl, refl)
@@ -96,26 +93,32 @@ module _ (text hart map : List ℕ) where
   unfolding restoreResult restoredHart restoredMap
   not-restored e = (rw e, (rw e, rw e))
 
-  module _ (t : fits hart map ≡ true) (words : Words 41 hart) {s : Stepped} (e : s ≡ restored (hartOf hart) emptyMap text) {r : ℕ} (f : r ≡ refusalOf (s .answer)) where
-    number : r ≡ refusalOf (readBack text hart map .answer)
-    number = f ∙ ap (λ (x : Stepped). refusalOf (x .answer)) e ∙ ap refusalOf (read-answer (hartOf hart) text emptyMap (mapOfWords map))
+  module _ (t : fits hart map ≡ true) (words : Words 41 hart) (g : Hart) (empty : Map) {s : Stepped} (e : s ≡ restored g empty text) {r : ℕ}
+      (f : r ≡ refusalOf (s .answer)) where
+    given-number : r ≡ refusalOf (restored g empty text .answer)
+    given-number = f ∙ ap (λ (x : Stepped). refusalOf (x .answer)) e
 
-    empty-number : r ≡ refusalOf (restored (hartOf hart) emptyMap text .answer)
-    empty-number = f ∙ ap (λ (x : Stepped). refusalOf (x .answer)) e
+    number : r ≡ refusalOf (readBack text hart map .answer)
+    number = given-number ∙ ap refusalOf (read-answer g (hartOf hart) empty (mapOfWords map) text)
 
     pub restore-refused : (r ≡ 0 → ⊥) → Restored text hart map r hart map
     unfolding restoreResult restoredHart restoredMap
     restore-refused n =
-        let k = read-refused (hartOf hart) text emptyMap (mapOfWords map) (λ z. n (empty-number ∙ z)) in (
+        let k = read-refused g (hartOf hart) empty (mapOfWords map) text (λ z. n (given-number ∙ z)) in (
           rw t number,
           (
-            rw t (sym (words-back hart words) ∙ ap hartWords (sym (k .0))),
+            rw t (sym (words-back hart words) ∙ ap (λ (x : Hart). wordsOf (x .state)) (sym (k .0))),
             rw t (sym (map-words-back map (fitting hart map t .1)) ∙ ap mapWords (sym (k .1))),
           ),
         )
 
-    pub restore-done : r ≡ 0 → {h m : List ℕ} → h ≡ hartWords (s .hart) → m ≡ mapWords (s .map) → Restored text hart map 0 h m
+    pub restore-done : r ≡ 0 → {h m : List ℕ} → h ≡ stored (s .hart .state) hart → m ≡ mapWords (s .map) → Restored text hart map 0 h m
     unfolding restoreResult restoredHart restoredMap
     restore-done z p q =
-        let d : s ≡ readBack text hart map = e ∙ read-done (hartOf hart) text emptyMap (mapOfWords map) (sym empty-number ∙ z) in
-        (rw t (sym z ∙ number), (rw t (p ∙ ap (λ (x : Stepped). hartWords (x .hart)) d), rw t (q ∙ ap (λ (x : Stepped). mapWords (x .map)) d)))
+        let d : s ≡ readBack text hart map = e ∙ read-done g (hartOf hart) empty (mapOfWords map) text (sym given-number ∙ z) in (
+          rw t (sym z ∙ number),
+          (
+            rw t (p ∙ all-stored hart (fitting hart map t .0) (s .hart .state) ∙ ap (λ (x : Stepped). wordsOf (x .hart .state)) d),
+            rw t (q ∙ ap (λ (x : Stepped). mapWords (x .map)) d),
+          ),
+        )

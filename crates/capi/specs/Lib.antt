@@ -1,5 +1,3 @@
 -- The definitions that the contracts cite.
 pub mod MapWords
-pub mod Answers
 pub mod Calls
-pub mod Turns

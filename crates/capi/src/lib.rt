@@ -1,14 +1,14 @@
 // The interface for C: harts, maps, steps and answers as words. A call whose slices have another length changes nothing.
-mod answers;
+mod maps;
 mod query;
-mod restore;
-mod run;
-mod slices;
 
+use hart::Hart;
+use map::Map;
+use map::Range;
 ghost use mathlib.Core.Path.{_≡_};
 ghost use mathlib.Core.Bool.{_&&_};
 ghost use lib.Dec.{eqb, leb};
-ghost use Rattle.registers.specs.Hold.{isMode};
+ghost use Rattle.pmp.specs.Number.{isMode};
 ghost use Rattle.capi.specs.Calls.{stepCall, runCall, queryResult, queryAnswered, saveResult, savedText, restoreResult, restoredHart, restoredMap};
 
 fn fit(hart: usize, map: usize) -> bool
@@ -20,7 +20,7 @@ fn fit(hart: usize, map: usize) -> bool
 fn queryable(mode: u64, kind: u64) -> bool
     ensures { λ r. ⌜ r ≡ (isMode mode && leb kind 2) ⌝ }
 {
-    ((mode == 0) | ((mode == 1) | (mode == 3))) & (kind <= 2)
+    pmp::is_mode(mode) & (kind <= 2)
 }
 
 // One step: its number, 0 to 17, and its arguments. 1, or 0 where a length or the number is another.
@@ -38,12 +38,8 @@ pub extern "C" fn tegrwyllt_step(
     ensures { λ _. ⌜ now (map .exit) ≡ stepCall (now (hart .entry)) (now (map .entry)) step a b (now (answer .entry)) .map ⌝ }
     ensures { λ _. ⌜ now (answer .exit) ≡ stepCall (now (hart .entry)) (now (map .entry)) step a b (now (answer .entry)) .answers ⌝ }
 {
-    if !(fit(hart.len(), map.len()) & ((answer.len() == 3) & (step <= 17))) {
-        return 0;
-    }
-    let words = [step, a, b];
-    run::run(hart, map, &words, answer);
-    1
+    let numbers = [step, a, b];
+    tegrwyllt_run(hart, map, &numbers, answer)
 }
 
 // Steps in order, each given what the one before left: three words for each step, and three for its answer. 1, or 0 where a length or a step's number is
@@ -60,10 +56,11 @@ pub extern "C" fn tegrwyllt_run(
     ensures { λ _. ⌜ now (map .exit) ≡ runCall (now (hart .entry)) (now (map .entry)) (now (steps .entry)) (now (answers .entry)) .map ⌝ }
     ensures { λ _. ⌜ now (answers .exit) ≡ runCall (now (hart .entry)) (now (map .entry)) (now (steps .entry)) (now (answers .entry)) .answers ⌝ }
 {
-    if !(fit(hart.len(), map.len()) & ((answers.len() == steps.len()) & run::name_steps(steps))) {
+    if !(fit(hart.len(), map.len()) & ((answers.len() == steps.len()) & steps::name_steps(steps))) {
         return 0;
     }
-    run::run(hart, map, steps, answers);
+    let remap = engine::run(hart, steps, answers);
+    maps::renew(remap, hart, map);
     1
 }
 
@@ -85,8 +82,8 @@ pub extern "C" fn tegrwyllt_query(
         return 0;
     }
     let decision = query::ask(hart, map, mode, kind, address, size);
-    let words = answers::decision_words(decision);
-    slices::copy(&words, answer);
+    let words = query::decision_words(decision);
+    maps::copy(&words, answer);
     1
 }
 
@@ -102,11 +99,14 @@ pub extern "C" fn tegrwyllt_save(hart: &[u64], text: &mut [u8]) -> u64
     if hart.len() != 41 {
         return MISFIT;
     }
-    let given = slices::load(hart);
-    hart::refusal_of(given.save(text))
+    let given = Hart {
+        state: state::load(hart),
+    };
+    steps::refusal_of(given.save(text))
 }
 
-// Reads a text back as a hart and its map. 0, or the number of the refusal, 4 before 5; then hart and map are left as they were.
+// Reads a text back as a hart and its map. 0, or the number of the refusal, 4 before 5; then hart and map are left as they were. What a hart and a map
+// that go in are does not matter to the reading, so any stand for them.
 #[no_mangle]
 pub extern "C" fn tegrwyllt_restore(text: &[u8], hart: &mut [u64], map: &mut [u64]) -> u64
     ensures { λ r. ⌜ r ≡ restoreResult (now (text .entry)) (now (hart .entry)) (now (map .entry)) ⌝ }
@@ -116,12 +116,27 @@ pub extern "C" fn tegrwyllt_restore(text: &[u8], hart: &mut [u64], map: &mut [u6
     if !fit(hart.len(), map.len()) {
         return MISFIT;
     }
-    let read = restore::read(text, hart);
+    let given = Hart {
+        state: state::reset(),
+    };
+    let empty = Map {
+        count: 0,
+        ranges: [Range {
+            first: 0,
+            last: 0,
+            owner: 0,
+        }; 33],
+    };
+    let read = given.restore(empty, text);
     let answer = read.answer;
-    let refusal = hart::refusal_of(answer);
+    let refusal = steps::refusal_of(answer);
     if refusal != 0 {
         return refusal;
     }
-    restore::write(read, hart, map);
+    let after = read.hart;
+    let state = after.state;
+    state::store(state, hart);
+    let fresh = read.map;
+    maps::store_map(fresh, map);
     0
 }

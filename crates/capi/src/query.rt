@@ -1,6 +1,6 @@
 // The access query on words.
-use crate::slices::find;
-use crate::slices::load;
+use crate::maps::find;
+use hart::Hart;
 use map::Found;
 use map::Map;
 use map::Range;
@@ -8,11 +8,10 @@ use pmp::Access;
 use pmp::Decision;
 ghost use mathlib.Core.Path.{_≡_};
 ghost use lib.ListN.{length};
-ghost use Rattle.registers.specs.Effective.{modeOf};
+ghost use Rattle.pmp.specs.Number.{modeOf};
 ghost use Rattle.hart.specs.Queries.{queryAnswer};
-ghost use Rattle.hart.specs.Saved.{hartOf};
 ghost use Rattle.capi.specs.MapWords.{mapOfWords};
-ghost use Rattle.capi.specs.Calls.{accessOf, mapWith};
+ghost use Rattle.capi.specs.Calls.{hartOf, accessOf, mapWith, decisionWords};
 
 // The kind of access of a number: 0 is a fetch, 1 a load, and any other a store.
 fn access_of(kind: u64) -> Access
@@ -56,13 +55,25 @@ pub(crate) fn ask(
     requires { ⌜ (length (now hart) ≡ 41) × (length (now map) ≡ 100) ⌝ }
     ensures { λ r. ⌜ r ≡ queryAnswer (hartOf (now (hart .entry))) (mapOfWords (now (map .entry))) (modeOf mode) (accessOf kind) address size ⌝ }
 {
-    let given = load(hart);
+    let given = Hart {
+        state: state::load(hart),
+    };
     let found = find(map, address);
     given.query(
         map_with(found),
-        registers::mode_of(mode),
+        pmp::mode_of(mode),
         access_of(kind),
         address,
         size,
     )
+}
+
+pub(crate) fn decision_words(decision: Decision) -> [u64; 3]
+    ensures { λ r. ⌜ r ≡ decisionWords decision ⌝ }
+{
+    match decision {
+        Decision::Granted => [3, 0, 0],
+        Decision::Fault(cause) => [6, cause, 0],
+        Decision::Refused(number) => [5, number, 0],
+    }
 }

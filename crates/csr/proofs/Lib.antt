@@ -1,7 +1,4 @@
 -- The laws that the proofs and the crates above cite.
-pub mod Numbers
-pub mod Configs
 pub mod StatusKept
+pub mod TrapKept
 pub mod RegistersKept
-pub mod PmpKept
-pub mod OperationKept

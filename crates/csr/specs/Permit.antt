@@ -5,8 +5,8 @@ use lib.Dec.{eqb, leb, ltb}
 use Rattle.bits.specs.Mask.{testBit}
 use Rattle.registers.specs.declared.Registers.{Registers}
 use Rattle.registers.specs.Status.{tvm}
-use Rattle.csr.specs.declared.Operation.{Operation}
-use Rattle.csr.specs.declared.Operation.the-variants.{Write, Set, Clear, Read}
+use Rattle.steps.specs.declared.Operation.{Operation}
+use Rattle.steps.specs.declared.Operation.the-variants.{Write, Set, Clear, Read}
 
 -- a number from first to last, both included
 abbrev pub between : ℕ → ℕ → ℕ → Bool

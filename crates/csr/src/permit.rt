@@ -1,8 +1,8 @@
 // Which accesses are an illegal instruction.
-use crate::Operation;
 use registers::Registers;
+use steps::Operation;
 ghost use mathlib.Core.Path.{_≡_};
-ghost use Rattle.csr.specs.Permit.{presentMachine, presentSupervisor, presentUser, present, attemptsWrite, counterHidden, illegal};
+ghost use Rattle.csr.specs.Permit.{presentMachine, presentSupervisor, present, attemptsWrite, counterHidden, illegal};
 
 fn is_present_machine(n: u64) -> bool
     ensures { λ r. ⌜ r ≡ presentMachine n ⌝ }
@@ -44,7 +44,8 @@ fn is_present(n: u64) -> bool
     is_present_machine(n) | (is_present_supervisor(n) | user)
 }
 
-fn attempts_write(operation: Operation) -> bool
+// Every operation but a read is a write attempt, even with operand 0.
+pub fn attempts_write(operation: Operation) -> bool
     ensures { λ r. ⌜ r ≡ attemptsWrite operation ⌝ }
 {
     match operation {

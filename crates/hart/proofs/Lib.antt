@@ -1,12 +1,4 @@
--- Laws of the definitions, and the larger theorems.
-pub mod Worked
+-- Laws of the definitions.
 pub mod StepLaws
-pub mod RunLaws
-pub mod Kept
-pub mod Texts
+pub mod LeftLaws
 pub mod SavedLaws
-pub mod Answered
-pub mod RefusalLaws
-pub mod Holds
-pub mod StepKeeping
-pub mod Faithfulness

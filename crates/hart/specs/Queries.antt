@@ -8,9 +8,9 @@ use Rattle.pmp.specs.declared.Decision.the-variants.{Refused}
 use Rattle.map.specs.declared.Map.{Map}
 use Rattle.map.specs.Query.{queried}
 use Rattle.hart.specs.declared.Hart.{Hart}
-use Rattle.hart.specs.Effects.{canHold}
+use Rattle.state.specs.Hold.{canHold}
 
 -- refusal 3 goes before 1 and 7; once it is judged no address register is looked at
 unfoldable pub queryAnswer : Hart → Map → Mode → Access → ℕ → ℕ → Decision
 queryAnswer h map mode access address size =
-    cond (canHold h) (queried (h .pmp .cfgs) map mode access address size) (Refused 3)
+    cond (canHold (h .state)) (queried (h .state .pmp .cfgs) map mode access address size) (Refused 3)

@@ -1,45 +1,46 @@
--- 01, "Steps": a step takes the state and its map and hands both back.
-use mathlib.Core.Bool.{Bool, cond}
-use Rattle.registers.specs.declared.Pmp.{Pmp}
-use Rattle.registers.specs.Hold.{resetPmp}
-use Rattle.registers.specs.Same.{samePmp}
+-- 01, "Steps": a step by a hart takes the state and its map and hands both back.
+use Prim.Native.Nat.{ℕ}
+use mathlib.Core.Bool.{cond}
+use Rattle.steps.specs.declared.Step.{Step}
+use Rattle.steps.specs.declared.Answer.{Answer}
+use Rattle.steps.specs.declared.Answer.the-variants.{Done, Refused}
+use Rattle.protection.specs.declared.Pmp.{Pmp}
+use Rattle.protection.specs.Hold.{resetPmp}
+use Rattle.protection.specs.Same.{samePmp}
+use Rattle.state.specs.declared.State.{State}
+use Rattle.state.specs.Hold.{resetState}
 use Rattle.map.specs.declared.Map.{Map}
-use Rattle.map.specs.Ranges.{compiled}
+use Rattle.map.specs.Compiled.{compiled}
+use Rattle.engine.specs.Effects.{Effect, isReset, stepRule}
 use Rattle.hart.specs.declared.Hart.{Hart}
-use Rattle.hart.specs.declared.Step.{Step}
-use Rattle.hart.specs.declared.Effect.{Effect}
 use Rattle.hart.specs.declared.Stepped.{Stepped}
 use Rattle.hart.specs.declared.Mapped.{Mapped}
-use Rattle.trap.specs.declared.Answer.the-variants.{Done}
-use Rattle.hart.specs.Effects.{resetHart, effectOf, effect, judged, isReset}
 
 -- the map for protection registers
 abbrev pub mapFor : Pmp → Map
 mapFor p = compiled (p .cfgs) (p .addrs)
 
+abbrev pub hartWith : State → Hart
+hartWith s = record { state = s }
+
+-- a hart, a map and an answer handed back
+abbrev pub handedBack : Hart → Map → Answer → Stepped
+handedBack h map answer = record { hart = h; map = map; answer = answer }
+
 -- a step after which a PMP byte or pmpaddr differs hands back a freshly compiled map, any other the map as given
 abbrev pub remapped : Pmp → Map → Pmp → Map
 remapped before map after = cond (samePmp before after) map (mapFor after)
 
--- a step's effect, with the map that belongs to it
 abbrev pub withMap : Hart → Map → Effect → Stepped
-withMap h map e = record { hart = e .hart; map = remapped (h .pmp) map (e .hart .pmp); answer = e .answer }
-
--- the map handed back as given
-abbrev pub handedBack : Map → Effect → Stepped
-handedBack map e = record { hart = e .hart; map = map; answer = e .answer }
+withMap h map e = handedBack (hartWith (e .state)) (remapped (h .state .pmp) map (e .state .pmp)) (e .answer)
 
 -- the reset state and the reset map, which step 0 hands back
 abbrev pub resetMapped : Mapped
-resetMapped = record { hart = resetHart; map = mapFor resetPmp }
+resetMapped = record { hart = hartWith resetState; map = mapFor resetPmp }
 
 abbrev pub resetDone : Stepped
-resetDone = handedBack (resetMapped .map) (effectOf (resetMapped .hart) Done)
+resetDone = handedBack (resetMapped .hart) (resetMapped .map) Done
 
--- a step of a state that a hart can hold
-unfoldable pub transition : Hart → Map → Step → Stepped
-transition h map s = cond (isReset s) resetDone (withMap h map (effect h s))
-
--- a step of any state: refusal 3 comes first, but step 0 is never refused
+-- a step of any state, held or not
 unfoldable pub stepped : Hart → Map → Step → Stepped
-stepped h map s = cond (isReset s) resetDone (withMap h map (judged h s))
+stepped h map step = cond (isReset step) resetDone (withMap h map (stepRule (h .state) step))

@@ -13,7 +13,8 @@ impl Hart {
         ensures { λ r. ⌜ r ≡ queryAnswer self map mode access address size ⌝ }
     {
         if self.can_hold() {
-            let pmp = self.pmp;
+            let state = self.state;
+            let pmp = state.pmp;
             let cfgs = pmp.cfgs;
             map::query(cfgs, map, mode, access, address, size)
         } else {

@@ -1,18 +1,11 @@
 // Saving a hart as a text, and reading a text back.
 use crate::Hart;
 use crate::Stepped;
+use crate::stepping::map_for;
 use map::Map;
-use registers::Pmp;
-use trap::Answer;
+use steps::Answer;
 ghost use mathlib.Core.Path.{_≡_};
-ghost use Rattle.words.specs.Arrays.{Arrays};
 ghost use Rattle.hart.specs.Saved.{savedAnswer, savedBuffer, restored};
-ghost use Rattle.hart.specs.Texts.{resaved};
-
-// What the type says of the protection registers, as a fact for callers.
-fn typed(pmp: Pmp)
-    ensures { λ _. ⌜ Arrays pmp ⌝ }
-{}
 
 impl Hart {
     // Writes the hart's text to the front of a buffer. A refused save leaves the buffer as it was.
@@ -23,9 +16,8 @@ impl Hart {
         if !self.can_hold() {
             return Answer::Refused(3);
         }
-        let registers = self.registers;
-        let pmp = self.pmp;
-        if text::write(words::words_of(registers, pmp), buffer) {
+        let state = self.state;
+        if text::write(state::to_words(state), buffer) {
             Answer::Done
         } else {
             Answer::Refused(6)
@@ -45,9 +37,8 @@ impl Hart {
             };
         }
         let words = reading.words;
-        let registers = words::registers_of(words);
-        let pmp = words::pmp_of(words);
-        let hart = Hart { registers, pmp };
+        let state = state::of_words(words);
+        let hart = Hart { state };
         if !hart.can_hold() {
             return Stepped {
                 hart: self,
@@ -55,33 +46,12 @@ impl Hart {
                 answer: Answer::Refused(5),
             };
         }
-        let cfgs = pmp.cfgs;
-        let addrs = pmp.addrs;
-        let fresh = map::compile(cfgs, addrs);
+        let pmp = state.pmp;
+        let fresh = map_for(pmp);
         Stepped {
             hart,
             map: fresh,
             answer: Answer::Done,
         }
-    }
-
-    // Saves the hart and reads its text back. What comes back is the hart that was saved, with its map: a text loses nothing.
-    pub fn resaved(self, map: Map) -> Stepped
-        ensures { λ r. ⌜ r ≡ resaved self map ⌝ }
-    {
-        if !self.can_hold() {
-            return Stepped {
-                hart: self,
-                map,
-                answer: Answer::Refused(3),
-            };
-        }
-        let registers = self.registers;
-        let pmp = self.pmp;
-        typed(pmp);
-        let words = words::words_of(registers, pmp);
-        let mut text = [0u8; 1027];
-        self.save(&mut text);
-        self.restore(map, &text)
     }
 }

@@ -1,16 +1,18 @@
 -- The loops over the digits of one word.
 use Prim.Native.Nat.{ℕ, suc, _+_, _-_, _*_, _/_, _%_, _^_, _≤_, _<_}
 use mathlib.Core.Path.{_≡_, refl, sym, ap, _∙_}
-use mathlib.Core.Bool.{Bool, true, false, cond}
+use mathlib.Core.Bool.{Bool, true, false, cond, _&&_, and-true, and-assoc}
 use mathlib.Core.List.{List}
 use native.Mathlib.Omega.{arith}
 use native.Mathlib.Nat.{add-zero, pow-le-pow-right}
-use lib.Dec.{leb, ltb}
+use lib.Dec.{leb, ltb, eqb}
 use borrow.Author.Tests.{leb-true, leb-false, le-leb, lt-leb}
 use lib.ListN.{getD, set}
 use lib.Pow.{pow-add}
 use lib.Seq.{sets}
 use Rattle.lines.specs.Lines.{hexDigit, hexDigits, digitValue, numberAt}
+use Rattle.lines.specs.Places.{hasRoom}
+use Rattle.lines.specs.Fields.{areDigits}
 
 -- ---- writing
 
@@ -47,26 +49,31 @@ number-fits j w d hj hw hd =
     let b : 2 ^ (4 * j + 4) ≤ 2 ^ 64 = pow-le-pow-right {n = 2} (omega arith) {i = 4 * j + 4} {j = 64} (omega arith) in
     (omega arith, omega (arith, pow-add 2 (4 * j) 4))
 
-pub number-start : (t : List ℕ) (p : ℕ) → numberAt 16 0 t p ≡ numberAt 16 0 t (p + 0)
-number-start t p = rw (add-zero p)
+-- the number that is read, and whether each byte is a digit, once j of the bytes are passed
+module _ (t : List ℕ) (p : ℕ) where
+  pub read-start : (numberAt 16 0 t p ≡ numberAt 16 0 t (p + 0)) × (areDigits 16 t p ≡ areDigits 16 t (p + 0))
+  read-start = (rw (add-zero p), rw (add-zero p))
 
-pub number-more : (t : List ℕ) (w p j : ℕ) → j < 16
-    → numberAt (16 - j) w t (p + j) ≡ numberAt (16 - (j + 1)) (w * 16 + digitValue (getD t (p + j) 0)) t (p + (j + 1))
-unfolding numberAt
-number-more t w p j h =
-    let e : 16 - j ≡ suc (16 - (j + 1)) = omega arith in
-    let s : p + (j + 1) ≡ p + j + 1 = omega arith in
-    rw (e, s)
+  module _ (w : ℕ) (r : Bool) (j : ℕ) where
+    pub read-more : j < 16
+        → (numberAt (16 - j) w t (p + j) ≡ numberAt (16 - (j + 1)) (w * 16 + digitValue (getD t (p + j) 0)) t (p + (j + 1)))
+        × ((r && areDigits (16 - j) t (p + j))
+        ≡ ((r && eqb (getD t (p + j) 0) (hexDigit (digitValue (getD t (p + j) 0)))) && areDigits (16 - (j + 1)) t (p + (j + 1))))
+    unfolding numberAt areDigits
+    read-more h =
+        let e : 16 - j ≡ suc (16 - (j + 1)) = omega arith in
+        let s : p + (j + 1) ≡ p + j + 1 = omega arith in
+        (rw (e, s), rw (e, s) (sym (and-assoc r _ _)))
 
-pub number-all : (t : List ℕ) (w p j : ℕ) → 16 ≤ j → numberAt (16 - j) w t p ≡ w
-unfolding numberAt
-number-all t w p j h = let e : 16 - j ≡ 0 = omega arith in rw e
+    pub read-all : 16 ≤ j → (numberAt (16 - j) w t (p + j) ≡ w) × ((r && areDigits (16 - j) t (p + j)) ≡ r)
+    unfolding numberAt areDigits
+    read-all h = let e : 16 - j ≡ 0 = omega arith in (rw e, rw e (and-true r))
 
--- ---- the room for them
+-- ---- the room for bytes
 
-pub room-from : (n p : ℕ) → 16 ≤ n → leb p (n - 16) ≡ leb (p + 16) n
-room-from n p h = go (leb p (n - 16)) refl
+pub room-from : (n p size : ℕ) → size ≤ n → leb p (n - size) ≡ hasRoom n p size
+room-from n p size h = go (leb p (n - size)) refl
   where
-    go : (b : Bool) → leb p (n - 16) ≡ b → b ≡ leb (p + 16) n
-    go true e = sym (le-leb (p + 16) n (omega (arith, leb-true p (n - 16) e)))
-    go false e = sym (lt-leb (p + 16) n (omega (arith, leb-false p (n - 16) e)))
+    go : (b : Bool) → leb p (n - size) ≡ b → b ≡ hasRoom n p size
+    go true e = sym (le-leb (p + size) n (omega (arith, leb-true p (n - size) e)))
+    go false e = sym (lt-leb (p + size) n (omega (arith, leb-false p (n - size) e)))

@@ -1,3 +1,4 @@
 -- The definitions that the contracts cite.
 pub mod Lines
 pub mod Places
+pub mod Fields

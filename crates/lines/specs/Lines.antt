@@ -2,15 +2,19 @@
 use Prim.Native.Nat.{ℕ, zero, suc, _+_, _*_, _/_, _%_, _^_}
 use Prim.Native.String.{String, [] as []ˢ, _∷_ as _∷ˢ_}
 use Prim.Native.Char.{code}
-use mathlib.Core.Bool.{Bool, true, false, cond, _&&_}
+use mathlib.Core.Bool.{Bool, cond}
 use mathlib.Core.List.{List, [], _∷_, _++_, map}
-use lib.Dec.{leb, ltb, eqb}
+use lib.Dec.{ltb}
 use lib.ListN.{length, getD}
 use Rattle.bits.specs.Same.{sameList}
 
 unfoldable pub bytesOf : String → List ℕ
 bytesOf []ˢ = []
 bytesOf (c ∷ˢ s) = code c ∷ bytesOf s
+
+-- a key with its `=`
+abbrev pub keyOf : String → List ℕ
+keyOf k = bytesOf k ++ 61 ∷ []
 
 -- ---- writing
 
@@ -24,12 +28,17 @@ hexDigits zero w = []
 hexDigits (suc n) w = hexDigit (w / 2 ^ (4 * n) % 16) ∷ hexDigits n w
 
 unfoldable pub lineOf : String → ℕ → List ℕ
-lineOf k w = bytesOf k ++ 61 ∷ hexDigits 16 w ++ 10 ∷ []
+lineOf k w = keyOf k ++ (hexDigits 16 w ++ 10 ∷ [])
 
 -- a line for each key, with the words from number i on
 unfoldable pub linesOf : List String → ℕ → List ℕ → List ℕ
 linesOf [] i ws = []
 linesOf (k ∷ ks) i ws = lineOf k (getD ws i 0) ++ linesOf ks (i + 1) ws
+
+-- the length of these lines
+unfoldable pub linesLength : List String → ℕ
+linesLength [] = 0
+linesLength (k ∷ ks) = length (keyOf k) + 17 + linesLength ks
 
 -- ---- reading
 
@@ -42,23 +51,15 @@ unfoldable pub numberAt : ℕ → ℕ → List ℕ → ℕ → ℕ
 numberAt zero w t p = w
 numberAt (suc n) w t p = numberAt n (w * 16 + digitValue (getD t p 0)) t (p + 1)
 
--- 16 bytes from place p on lie within a text of this length
-abbrev pub hasRoom : ℕ → ℕ → Bool
-hasRoom n p = leb (p + 16) n
-
--- the word of the 16 digits from place p on, 0 where the text ends before
-unfoldable pub wordAt : List ℕ → ℕ → ℕ
-wordAt t p = cond (hasRoom (length t) p) (numberAt 16 0 t p) 0
-
 -- where the digits behind each key start, the first key being at place p
 unfoldable pub placesOf : List String → ℕ → List ℕ
 placesOf [] p = []
-placesOf (k ∷ ks) p = (p + length (bytesOf k) + 1) ∷ placesOf ks (p + length (bytesOf k) + 18)
+placesOf (k ∷ ks) p = (p + length (keyOf k)) ∷ placesOf ks (p + length (keyOf k) + 17)
 
 -- the words behind the keys
-unfoldable pub wordsOf : List String → List ℕ → List ℕ
-wordsOf ks t = map (wordAt t) (placesOf ks 0)
+unfoldable pub wordsIn : List String → List ℕ → List ℕ
+wordsIn ks t = map (numberAt 16 0 t) (placesOf ks 0)
 
 -- a text in the form of the keys: it is the text of the words in it
 unfoldable pub isText : List String → List ℕ → Bool
-isText ks t = sameList t (linesOf ks 0 (wordsOf ks t))
+isText ks t = sameList t (linesOf ks 0 (wordsIn ks t))

@@ -1,12 +1,17 @@
-// Texts of lines, each a key, `=`, sixteen hexadecimal digits and a line feed: words are written to and read from given places.
+// Texts of lines, each a key, `=`, sixteen hexadecimal digits and a line feed: words are written to given places, and lines are read.
 ghost use mathlib.Core.Path.{_≡_};
-ghost use mathlib.Core.List.{map};
-ghost use Prim.Native.Nat.{_+_, _≤_, _<_, _%_};
+ghost use Prim.Native.Nat.{_+_, _≤_, _%_};
 ghost use lib.ListN.{length, getD};
 ghost use lib.Seq.{sets};
-ghost use Rattle.lines.specs.Lines.{hexDigit, hexDigits, digitValue, numberAt, hasRoom, wordAt};
-ghost use Rattle.bits.specs.Same.{sameList};
-ghost use Rattle.lines.specs.Places.{withWord, withWords};
+ghost use Rattle.lines.specs.Lines.{hexDigit, hexDigits, digitValue};
+ghost use Rattle.lines.specs.Places.{hasRoom, withWord, withWords};
+ghost use Rattle.lines.specs.Fields.{hasKey, wordAt, lineAt};
+
+// A word that is read, and whether what was read is in the form.
+pub struct Field {
+    pub ok: bool,
+    pub word: u64,
+}
 
 // The lower-case hexadecimal digit of the lowest four bits.
 pub fn hex_digit(number: u64) -> u8
@@ -28,14 +33,14 @@ pub fn digit_value(byte: u8) -> u64
     }
 }
 
-// Whether sixteen bytes from a place on lie within a text.
-fn has_room(length: usize, place: usize) -> bool
-    ensures { λ r. ⌜ r ≡ hasRoom length place ⌝ }
+// Whether so many bytes from a place on lie within a text.
+fn has_room(length: usize, place: usize, size: usize) -> bool
+    ensures { λ r. ⌜ r ≡ hasRoom length place size ⌝ }
 {
-    if length < 16 {
+    if length < size {
         false
     } else {
-        place <= length - 16
+        place <= length - size
     }
 }
 
@@ -54,34 +59,10 @@ fn write_digits(word: u64, text: &mut [u8], place: usize)
 pub fn write_word(word: u64, text: &mut [u8], place: usize)
     ensures { λ _. ⌜ now (text .exit) ≡ withWord place word (now (text .entry)) ⌝ }
 {
-    if !has_room(text.len(), place) {
+    if !has_room(text.len(), place, 16) {
         return;
     }
     write_digits(word, text, place);
-}
-
-fn number(text: &[u8], place: usize) -> u64
-    requires { ⌜ place + 16 ≤ length (now text) ⌝ }
-    ensures { λ r. ⌜ r ≡ numberAt 16 0 (now (text .entry)) place ⌝ }
-{
-    let mut word: u64 = 0;
-    let mut j: usize = 0;
-    while j < 16 {
-        word = word * 16 + digit_value(text[place + j]);
-        j += 1;
-    }
-    word
-}
-
-// The word of the sixteen digits from a place on; 0 where the text ends before.
-pub fn word_at(text: &[u8], place: usize) -> u64
-    ensures { λ r. ⌜ r ≡ wordAt (now (text .entry)) place ⌝ }
-{
-    if has_room(text.len(), place) {
-        number(text, place)
-    } else {
-        0
-    }
 }
 
 fn word(words: &[u64], i: usize) -> u64
@@ -101,36 +82,54 @@ pub fn write_words(places: &[usize], words: &[u64], text: &mut [u8])
     }
 }
 
-fn least(a: usize, b: usize) -> usize
-    ensures { λ r. ⌜ (r ≤ a) × (r ≤ b) × (r < a → b ≤ r) ⌝ }
+// Whether a key stands at a place. Every byte is looked at, and so below: without an early end several are compared at a time.
+pub fn has_key(text: &[u8], place: usize, key: &[u8]) -> bool
+    ensures { λ r. ⌜ r ≡ hasKey (now (text .entry)) place (now (key .entry)) ⌝ }
 {
-    if a < b { a } else { b }
-}
-
-// Reads the word at each place, as far as there are words to put them in.
-pub fn read_words(places: &[usize], text: &[u8], words: &mut [u64])
-    ensures { λ _. ⌜ now (words .exit) ≡ sets (now (words .entry)) 0 (map (wordAt (now (text .entry))) (now (places .entry))) ⌝ }
-{
-    let count = least(places.len(), words.len());
-    let mut i: usize = 0;
-    while i < count {
-        words[i] = word_at(text, places[i]);
-        i += 1;
-    }
-}
-
-// Whether two texts hold the same bytes. Every byte is looked at: without an early end the loop runs many bytes at a time.
-pub fn same_bytes(a: &[u8], b: &[u8]) -> bool
-    ensures { λ r. ⌜ r ≡ sameList (now (a .entry)) (now (b .entry)) ⌝ }
-{
-    if a.len() != b.len() {
+    if !has_room(text.len(), place, key.len()) {
         return false;
     }
     let mut same = true;
     let mut i: usize = 0;
-    while i < a.len() {
-        same = same & (a[i] == b[i]);
+    while i < key.len() {
+        same = same & (text[place + i] == key[i]);
         i += 1;
     }
     same
+}
+
+// Reads the sixteen digits and the line feed from a place on. Where the text ends before, they are not ok, and the word is 0.
+pub fn read_word(text: &[u8], place: usize) -> Field
+    ensures { λ r. ⌜ r ≡ wordAt (now (text .entry)) place ⌝ }
+{
+    if !has_room(text.len(), place, 17) {
+        return Field { ok: false, word: 0 };
+    }
+    let mut ok = true;
+    let mut word: u64 = 0;
+    let mut j: usize = 0;
+    while j < 16 {
+        let byte = text[place + j];
+        let value = digit_value(byte);
+        ok = ok & (byte == hex_digit(value));
+        word = word * 16 + value;
+        j += 1;
+    }
+    ok = ok & (text[place + 16] == b'\n');
+    Field { ok, word }
+}
+
+// Reads the line from a place on: a key, given with its `=`, and the word behind it. Where the text ends before, it is not ok, and the word is 0.
+pub fn read_line(text: &[u8], place: usize, key: &[u8]) -> Field
+    ensures { λ r. ⌜ r ≡ lineAt (now (text .entry)) place (now (key .entry)) ⌝ }
+{
+    if !has_room(text.len(), place, key.len()) {
+        return Field { ok: false, word: 0 };
+    }
+    let keyed = has_key(text, place, key);
+    let digits = read_word(text, place + key.len());
+    Field {
+        ok: keyed & digits.ok,
+        word: digits.word,
+    }
 }

@@ -11,7 +11,9 @@ use Rattle.pmp.specs.declared.Span.{Span}
 use Rattle.pmp.specs.Entry.{entrySpan}
 use Rattle.map.specs.declared.Range.{Range}
 use Rattle.map.specs.Lookup.{holdsByte}
-use Rattle.map.specs.Ranges.{range, part, laid, overlay, painted, rangesOf, Covers, Edge, StartAtEdges, InnerEdges}
+use Rattle.map.specs.Ranges.{range, Covers}
+use Rattle.map.specs.Edges.{Edge, StartAtEdges, InnerEdges}
+use Rattle.map.specs.Painting.{rangeUpTo, overlayOne, overlay, painted, rangesOf}
 use Rattle.map.proofs.Lawful.{less}
 use Rattle.map.proofs.MapLaws.{is-map}
 
@@ -29,8 +31,8 @@ module _ (P : ℕ → Type 0) where
   starts-cond true xs ys x y = x refl
   starts-cond false xs ys x y = y
 
-  starts-part : (first end owner : ℕ) → P first → Starts P (part first end owner)
-  starts-part first end owner x = starts-cond (ltb first end) (range first (end - 1) owner ∷ []) [] (λ e. one-start x no-start) no-start
+  starts-up-to : (first end owner : ℕ) → P first → Starts P (rangeUpTo first end owner)
+  starts-up-to first end owner x = starts-cond (ltb first end) (range first (end - 1) owner ∷ []) [] (λ e. one-start x no-start) no-start
 
   larger : (a b : ℕ) → P a → P b → P (max a b)
   larger a b x y =
@@ -39,12 +41,12 @@ module _ (P : ℕ → Type 0) where
   starts-overlay : (s : Span) (i : ℕ) → P (s .low) → P (s .high) → (rs : List Range) → Starts P rs → Starts P (overlay s i rs)
   starts-overlay s i x y _ no-start = no-start
   starts-overlay s i x y _ (one-start {r = r} {rs = rs} f c) =
-      starts-append (laid s i r) (overlay s i rs)
-      (starts-append (part (r .first) (min (s .low) (suc (r .last))) (r .owner)) _
-      (starts-part (r .first) (min (s .low) (suc (r .last))) (r .owner) f)
-      (starts-append (cond (holdsByte r (s .low)) (part (s .low) (s .high) i) []) (part (max (s .high) (r .first)) (suc (r .last)) (r .owner))
-      (starts-cond (holdsByte r (s .low)) (part (s .low) (s .high) i) [] (λ e. starts-part (s .low) (s .high) i x) no-start)
-      (starts-part (max (s .high) (r .first)) (suc (r .last)) (r .owner) (larger (s .high) (r .first) y f))))
+      starts-append (overlayOne s i r) (overlay s i rs)
+      (starts-append (rangeUpTo (r .first) (min (s .low) (suc (r .last))) (r .owner)) _
+      (starts-up-to (r .first) (min (s .low) (suc (r .last))) (r .owner) f)
+      (starts-append (cond (holdsByte r (s .low)) (rangeUpTo (s .low) (s .high) i) []) (rangeUpTo (max (s .high) (r .first)) (suc (r .last)) (r .owner))
+      (starts-cond (holdsByte r (s .low)) (rangeUpTo (s .low) (s .high) i) [] (λ e. starts-up-to (s .low) (s .high) i x) no-start)
+      (starts-up-to (max (s .high) (r .first)) (suc (r .last)) (r .owner) (larger (s .high) (r .first) y f))))
       (starts-overlay s i x y rs c)
 
   starts-painted : (spans : ℕ → Span) → P 0 → ((k : ℕ) → k < 16 → spans k .low < spans k .high → P (spans k .low) × P (spans k .high))
@@ -52,11 +54,11 @@ module _ (P : ℕ → Type 0) where
   unfolding painted
   starts-painted spans z h zero l = one-start z no-start
   starts-painted spans z h (suc n) l =
-      let s = spans (15 - n) in
+      let s = spans (16 - suc n) in
       let c = starts-painted spans z h n (omega arith) in
-      starts-cond (ltb (s .low) (s .high)) (overlay s (15 - n) (painted spans n)) (painted spans n)
-      (λ e. let p = h (15 - n) (omega arith) (ltb-true (s .low) (s .high) e) in
-      starts-overlay s (15 - n) (p .0) (p .1) (painted spans n) c)
+      starts-cond (ltb (s .low) (s .high)) (overlay s (16 - suc n) (painted spans n)) (painted spans n)
+      (λ e. let p = h (16 - suc n) (omega arith) (ltb-true (s .low) (s .high) e) in
+      starts-overlay s (16 - suc n) (p .0) (p .1) (painted spans n) c)
       c
 
 module _ (cfgs addrs : List ℕ) where

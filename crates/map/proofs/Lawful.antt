@@ -11,7 +11,7 @@ use Rattle.pmp.specs.Entry.{top}
 use Rattle.pmp.specs.Rule.{ownerOf}
 use Rattle.pmp.proofs.Owner.{owner-bound}
 use Rattle.map.specs.declared.Range.{Range}
-use Rattle.map.specs.Ranges.{Covers, Parted, Owned, IsMap}
+use Rattle.map.specs.Ranges.{Owned, Covers, Parted, IsMap}
 
 -- two numbers compared, as a sum
 pub less : (a b : ℕ) → (a < b) ⊎ (b ≤ a)
@@ -132,9 +132,9 @@ module _ (cfgs addrs : List ℕ) where
   -- 17 is no byte's owner
   pub lawful-map : (rs : List Range) → Lawful (ownerOf cfgs addrs) 17 0 rs → IsMap cfgs addrs rs
   lawful-map rs l = record {
+    owned = owned (ownerOf cfgs addrs) 17 0 rs l;
     covers = covers (ownerOf cfgs addrs) 17 0 rs l;
     parted = parted (ownerOf cfgs addrs) 17 0 rs l;
-    owned = owned (ownerOf cfgs addrs) 17 0 rs l;
   }
 
   start-opens : (rs : List Range) → Covers 0 rs → Owned (ownerOf cfgs addrs) rs → Opens 17 rs

@@ -1,9 +1,9 @@
 -- Laws of the definitions, which the functions' proofs and other crates cite.
 pub mod Lawful
+pub mod LookupLaws
 pub mod Painting
 pub mod MapLaws
 pub mod Edges
-pub mod LookupLaws
 pub mod QueryLaws
-pub mod RunLaws
+pub mod RangeFromLaws
 pub mod SweepLaws

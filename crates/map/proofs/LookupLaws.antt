@@ -1,19 +1,31 @@
--- The range that holds a byte: what is found holds it, how a loop finds it, and where it is found on a lawful list. Assumes nothing.
+-- The range that holds a byte: whether one does, that what is found does, how a loop finds it, and where it is found on a lawful list. Assumes nothing.
 use Prim.Native.Nat.{ℕ, suc, _+_, _≤_, _<_}
 use mathlib.Core.Path.{_≡_, sym, subst, _∙_}
-use mathlib.Core.Bool.{cond}
+use mathlib.Core.Bool.{true, false, cond}
 use mathlib.Core.List.{List, [], _∷_, map}
 use mathlib.Core.Logic.{_⊎_, inl, inr}
 use native.Mathlib.Omega.{arith}
 use native.Mathlib.Numerals.{add-one}
+use lib.Dec.{leb}
 use lib.ListN.{length, getD, take, drop, drop-of-length-le, length-map}
 use lib.Seq.{drop-cons, getD-take, length-take-le}
 use borrow.Author.Tests.{le-leb, lt-leb}
+use Rattle.bits.proofs.Conjunction.{contradiction, not-true-false, both}
 use Rattle.pmp.specs.Entry.{top}
 use Rattle.map.specs.declared.Range.{Range}
 use Rattle.map.specs.declared.Found.the-variants.{At, Nothing}
 use Rattle.map.specs.Lookup.{holdsByte, findRange}
 use Rattle.map.proofs.Lawful.{less, Lawful, Run, head-run}
+
+pub holds-in : (r : Range) (b : ℕ) → r .first ≤ b → b ≤ r .last → holdsByte r b ≡ true
+holds-in r b x y = rw (le-leb (r .first) b x, le-leb b (r .last) y)
+
+pub holds-before : (r : Range) (b : ℕ) → b < r .first → holdsByte r b ≡ false
+holds-before r b x = rw (lt-leb (r .first) b x)
+
+pub holds-behind : (r : Range) (b : ℕ) → r .last < b → holdsByte r b ≡ false
+holds-behind r b x =
+    not-true-false (holdsByte r b) (λ e. contradiction (both (leb (r .first) b) (leb b (r .last)) e .1) (lt-leb b (r .last) x))
 
 pub found-holds : (rs : List Range) (byte : ℕ) (r : Range) → findRange rs byte ≡ At r → (r .first ≤ byte) × (byte ≤ r .last)
 found-holds [] byte r e = absurd (let z : _≡_ {A = ℕ} 0 1 = cc in omega arith)
@@ -21,10 +33,10 @@ found-holds (s ∷ rs) byte r e = go (less byte (s .first)) (less (s .last) byte
   where
     go : (byte < s .first) ⊎ (s .first ≤ byte) → (s .last < byte) ⊎ (byte ≤ s .last)
         → (findRange rs byte ≡ At r → (r .first ≤ byte) × (byte ≤ r .last)) → (r .first ≤ byte) × (byte ≤ r .last)
-    go (inl x) y ih = ih (rw (lt-leb (s .first) byte x) at e)
-    go (inr x) (inl y) ih = ih (rw (le-leb (s .first) byte x, lt-leb byte (s .last) y) at e)
+    go (inl x) y ih = ih (rw (holds-before s byte x) at e)
+    go (inr x) (inl y) ih = ih (rw (holds-behind s byte y) at e)
     go (inr x) (inr y) ih =
-        let q : At s ≡ At r = rw (le-leb (s .first) byte x, le-leb byte (s .last) y) at e in
+        let q : At s ≡ At r = rw (holds-in s byte x y) at e in
         let p : s ≡ r = cc in
         subst (λ (z : Range). (z .first ≤ byte) × (byte ≤ z .last)) p (x, y)
 
@@ -60,14 +72,14 @@ hit owner (r ∷ rs) before from byte l h k = go (less (r .last) byte) (λ x. hi
     go (inl x) ih = let t = ih x in
         record {
           it = t .it;
-          found = rw (le-leb (r .first) byte (omega (arith, l .0 .starts)), lt-leb byte (r .last) x) (t .found);
+          found = rw (holds-behind r byte x) (t .found);
           run = t .run;
           from = t .from;
           to = t .to;
         }
     go (inr x) ih = record {
       it = r;
-      found = rw (le-leb (r .first) byte (omega (arith, l .0 .starts)), le-leb byte (r .last) x);
+      found = rw (holds-in r byte (omega (arith, l .0 .starts)) x);
       run = head-run owner before from r rs l;
       from = omega (arith, l .0 .starts);
       to = x;

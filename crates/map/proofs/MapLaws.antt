@@ -10,7 +10,9 @@ use Rattle.pmp.specs.Rule.{ownerOf}
 use Rattle.pmp.proofs.EntryLaws.{span-bounds}
 use Rattle.map.specs.declared.Range.{Range}
 use Rattle.map.specs.Lookup.{rangesIn}
-use Rattle.map.specs.Ranges.{rangesOf, IsMap, padding, mapOf, compiled}
+use Rattle.map.specs.Ranges.{IsMap}
+use Rattle.map.specs.Painting.{rangesOf}
+use Rattle.map.specs.Compiled.{padding, mapOf, compiled}
 use Rattle.map.proofs.Lawful.{Lawful, lawful-map}
 use Rattle.map.proofs.Painting.{Short, painted-lawful}
 

@@ -6,41 +6,32 @@ use mathlib.Core.List.{List, [], _∷_, _++_}
 use mathlib.Core.Logic.{_⊎_, inl, inr, ⊎-elim}
 use native.Mathlib.Omega.{arith}
 use lib.ListN.{length}
-use lib.Dec.{leb}
-use borrow.Author.Tests.{lt-ltb, le-ltb, le-leb, lt-leb}
+use borrow.Author.Tests.{lt-ltb, le-ltb}
 use Rattle.pmp.specs.declared.Span.{Span}
 use Rattle.pmp.specs.Search.{lowest}
 use Rattle.pmp.specs.Entry.{top, contains}
-use Rattle.pmp.proofs.SearchLaws.{contradiction, not-true-false, and-true, lowest-within}
+use Rattle.pmp.proofs.SearchLaws.{lowest-within}
 use Rattle.pmp.proofs.EntryLaws.{contains-inside, contains-below, contains-beyond}
 use Rattle.map.specs.declared.Range.{Range}
 use Rattle.map.specs.Lookup.{holdsByte}
-use Rattle.map.specs.Ranges.{range, part, laid, overlay, paint, painted}
-use Rattle.map.specs.Sweep.{settled}
+use Rattle.map.specs.Ranges.{range}
+use Rattle.map.specs.Painting.{rangeUpTo, overlayOne, overlay, paint, painted}
+use Rattle.map.specs.Sweep.{normalized}
 use Rattle.map.proofs.Lawful.{less, Head, Lawful}
+use Rattle.map.proofs.LookupLaws.{holds-in, holds-before, holds-behind}
 
--- ---- the parts of a range over which bytes are laid
+-- ---- what is left of a range over which bytes are painted, with these
 
-part-some : (first end owner : ℕ) → first < end → part first end owner ≡ range first (end - 1) owner ∷ []
-part-some first end owner h = rw (lt-ltb first end h)
+up-to-some : (first end owner : ℕ) → first < end → rangeUpTo first end owner ≡ range first (end - 1) owner ∷ []
+up-to-some first end owner h = rw (lt-ltb first end h)
 
-part-none : (first end owner : ℕ) → end ≤ first → part first end owner ≡ []
-part-none first end owner h = rw (le-ltb first end h)
+up-to-none : (first end owner : ℕ) → end ≤ first → rangeUpTo first end owner ≡ []
+up-to-none first end owner h = rw (le-ltb first end h)
 
-part-to : (first last end owner : ℕ) → first ≤ last → end ≡ suc last → part first end owner ≡ range first last owner ∷ []
-part-to first last end owner h e =
+up-to-last : (first last end owner : ℕ) → first ≤ last → end ≡ suc last → rangeUpTo first end owner ≡ range first last owner ∷ []
+up-to-last first last end owner h e =
     let l : end - 1 ≡ last = omega arith in
-    part-some first end owner (omega arith) ∙ ap (λ (x : ℕ). range first x owner ∷ []) l
-
-holds-in : (r : Range) (b : ℕ) → r .first ≤ b → b ≤ r .last → holdsByte r b ≡ true
-holds-in r b x y = rw (le-leb (r .first) b x, le-leb b (r .last) y)
-
-holds-before : (r : Range) (b : ℕ) → b < r .first → holdsByte r b ≡ false
-holds-before r b x = rw (lt-leb (r .first) b x)
-
-holds-behind : (r : Range) (b : ℕ) → r .last < b → holdsByte r b ≡ false
-holds-behind r b x =
-    not-true-false (holdsByte r b) (λ e. contradiction (and-true (leb (r .first) b) (leb b (r .last)) e .1) (lt-leb b (r .last) x))
+    up-to-some first end owner (omega arith) ∙ ap (λ (x : ℕ). range first x owner ∷ []) l
 
 -- the owner of each byte once the bytes of s are given to i
 abbrev over : Span → ℕ → (ℕ → ℕ) → ℕ → ℕ
@@ -57,37 +48,37 @@ over-behind s i own b p = rw (contains-beyond s b p)
 
 -- what is left of the range behind the bytes
 abbrev rest : Span → Range → List Range
-rest s r = part (s .high) (suc (r .last)) (r .owner)
+rest s r = rangeUpTo (s .high) (suc (r .last)) (r .owner)
 
 module _ (s : Span) (i : ℕ) (lt : s .low < s .high) where
-  laid-before : (r : Range) → r .first ≤ r .last → r .last < s .low → laid s i r ≡ r ∷ []
-  laid-before r h k =
+  overlay-before : (r : Range) → r .first ≤ r .last → r .last < s .low → overlayOne s i r ≡ r ∷ []
+  overlay-before r h k =
       rw (
-        part-to (r .first) (r .last) (min (s .low) (suc (r .last))) (r .owner) h (omega arith),
+        up-to-last (r .first) (r .last) (min (s .low) (suc (r .last))) (r .owner) h (omega arith),
         holds-behind r (s .low) k,
-        part-none (max (s .high) (r .first)) (suc (r .last)) (r .owner) (omega arith),
+        up-to-none (max (s .high) (r .first)) (suc (r .last)) (r .owner) (omega arith),
       )
 
-  laid-behind : (r : Range) → r .first ≤ r .last → s .high ≤ r .first → laid s i r ≡ r ∷ []
-  laid-behind r h k =
+  overlay-behind : (r : Range) → r .first ≤ r .last → s .high ≤ r .first → overlayOne s i r ≡ r ∷ []
+  overlay-behind r h k =
       rw (
-        part-none (r .first) (min (s .low) (suc (r .last))) (r .owner) (omega arith),
+        up-to-none (r .first) (min (s .low) (suc (r .last))) (r .owner) (omega arith),
         holds-before r (s .low) (omega arith),
-        part-to (max (s .high) (r .first)) (r .last) (suc (r .last)) (r .owner) (omega arith) refl,
+        up-to-last (max (s .high) (r .first)) (r .last) (suc (r .last)) (r .owner) (omega arith) refl,
       )
       (let e : max (s .high) (r .first) ≡ r .first = omega arith in λ j. range (e j) (r .last) (r .owner) ∷ [])
 
-  laid-within : (r : Range) → s .low < r .first → r .first ≤ s .high → laid s i r ≡ rest s r
-  laid-within r h k =
+  overlay-within : (r : Range) → s .low < r .first → r .first ≤ s .high → overlayOne s i r ≡ rest s r
+  overlay-within r h k =
       let e : max (s .high) (r .first) ≡ s .high = omega arith in
-      rw (part-none (r .first) (min (s .low) (suc (r .last))) (r .owner) (omega arith), holds-before r (s .low) h, e)
+      rw (up-to-none (r .first) (min (s .low) (suc (r .last))) (r .owner) (omega arith), holds-before r (s .low) h, e)
 
-  laid-over : (r : Range) → r .first ≤ s .low → s .low ≤ r .last
-      → laid s i r ≡ part (r .first) (s .low) (r .owner) ++ (range (s .low) (s .high - 1) i ∷ rest s r)
-  laid-over r h k =
+  overlay-over : (r : Range) → r .first ≤ s .low → s .low ≤ r .last
+      → overlayOne s i r ≡ rangeUpTo (r .first) (s .low) (r .owner) ++ (range (s .low) (s .high - 1) i ∷ rest s r)
+  overlay-over r h k =
       let e : max (s .high) (r .first) ≡ s .high = omega arith in
       let d : min (s .low) (suc (r .last)) ≡ s .low = omega arith in
-      rw (holds-in r (s .low) h k, part-some (s .low) (s .high) i lt, e, d)
+      rw (holds-in r (s .low) h k, up-to-some (s .low) (s .high) i lt, e, d)
 
 -- ---- one entry painted over a lawful list
 
@@ -97,14 +88,14 @@ pub record Short (own : ℕ → ℕ) (before from : ℕ) (rs : List Range) (n : 
   pub short : length rs ≤ n
 
 module _ (s : Span) (i : ℕ) (own : ℕ → ℕ) (lt : s .low < s .high) (le : s .high ≤ top) (fresh : (b : ℕ) → own b ≡ i → ⊥) where
-  abbrev Laid : ℕ → ℕ → List Range → ℕ → Type 0
-  Laid p a rs n = Short (over s i own) p a rs n
+  abbrev Overlaid : ℕ → ℕ → List Range → ℕ → Type 0
+  Overlaid p a rs n = Short (over s i own) p a rs n
 
   other : (p a : ℕ) (r : Range) → Head own p a r → r .owner ≡ i → ⊥
   other p a r h e = fresh a (h .owned a (omega arith) (h .some) ∙ e)
 
   keep : (p q a n : ℕ) (r : Range) (rs : List Range) → Head own p a r → (r .owner ≡ q → ⊥) → (s .high ≤ a) ⊎ (r .last < s .low)
-      → Laid (r .owner) (suc (r .last)) rs n → Laid q a (r ∷ rs) (suc n)
+      → Overlaid (r .owner) (suc (r .last)) rs n → Overlaid q a (r ∷ rs) (suc n)
   keep p q a n r rs h d away t = record {
     lawful = (
       record {
@@ -120,10 +111,10 @@ module _ (s : Span) (i : ℕ) (own : ℕ → ℕ) (lt : s .low < s .high) (le : 
   }
 
   -- the list as it was, where it stands behind the bytes
-  after : (rs : List Range) (p q a : ℕ) → s .high ≤ a → (q ≡ i) ⊎ (q ≡ p) → Lawful own p a rs → Laid q a (overlay s i rs) (length rs)
+  after : (rs : List Range) (p q a : ℕ) → s .high ≤ a → (q ≡ i) ⊎ (q ≡ p) → Lawful own p a rs → Overlaid q a (overlay s i rs) (length rs)
   after [] p q a h e l = record { lawful = l; short = omega arith }
   after (r ∷ rs) p q a h e l =
-      rw (laid-behind s i lt r (omega (arith, l .0 .starts, l .0 .some)) (omega (arith, l .0 .starts)))
+      rw (overlay-behind s i lt r (omega (arith, l .0 .starts, l .0 .some)) (omega (arith, l .0 .starts)))
       (keep p q a (length rs) r (overlay s i rs) (l .0)
       (λ x. ⊎-elim (λ y. other p a r (l .0) (x ∙ y)) (λ y. l .0 .differs (x ∙ y)) e)
       (inl h)
@@ -131,10 +122,10 @@ module _ (s : Span) (i : ℕ) (own : ℕ → ℕ) (lt : s .low < s .high) (le : 
 
   -- what is left of a range behind the bytes, and then the list as it was
   behind : (r : Range) (rs : List Range) (p a : ℕ) → a ≤ s .high → s .high ≤ r .last → Lawful own p a (r ∷ rs)
-      → Laid i (s .high) (rest s r ++ overlay s i rs) (suc (length rs))
+      → Overlaid i (s .high) (rest s r ++ overlay s i rs) (suc (length rs))
   behind r rs p a x y l =
       let t = after rs (r .owner) (r .owner) (suc (r .last)) (omega arith) (inr refl) (l .1) in
-      rw (part-to (s .high) (r .last) (suc (r .last)) (r .owner) y refl)
+      rw (up-to-last (s .high) (r .last) (suc (r .last)) (r .owner) y refl)
       (record {
         lawful = (
           record {
@@ -149,20 +140,20 @@ module _ (s : Span) (i : ℕ) (own : ℕ → ℕ) (lt : s .low < s .high) (le : 
       })
 
   -- the new list from the end of the bytes on, where the old one stands within them
-  within : (rs : List Range) (p a : ℕ) → s .low < a → a ≤ s .high → Lawful own p a rs → Laid i (s .high) (overlay s i rs) (length rs)
+  within : (rs : List Range) (p a : ℕ) → s .low < a → a ≤ s .high → Lawful own p a rs → Overlaid i (s .high) (overlay s i rs) (length rs)
   within [] p a x y l = record { lawful = omega (arith, l); short = omega arith }
   within (r ∷ rs) p a x y l =
-      rw (laid-within s i lt r (omega (arith, l .0 .starts)) (omega (arith, l .0 .starts)))
+      rw (overlay-within s i lt r (omega (arith, l .0 .starts)) (omega (arith, l .0 .starts)))
       (go (λ z. within rs (r .owner) (suc (r .last)) (omega (arith, l .0 .some)) z (l .1)) (less (r .last) (s .high)))
     where
-      go : (suc (r .last) ≤ s .high → Laid i (s .high) (overlay s i rs) (length rs)) → (r .last < s .high) ⊎ (s .high ≤ r .last)
-          → Laid i (s .high) (rest s r ++ overlay s i rs) (suc (length rs))
+      go : (suc (r .last) ≤ s .high → Overlaid i (s .high) (overlay s i rs) (length rs)) → (r .last < s .high) ⊎ (s .high ≤ r .last)
+          → Overlaid i (s .high) (rest s r ++ overlay s i rs) (suc (length rs))
       go ih (inl z) =
-          rw (part-none (s .high) (suc (r .last)) (r .owner) z) (record { lawful = ih z .lawful; short = omega (arith, ih z .short) })
+          rw (up-to-none (s .high) (suc (r .last)) (r .owner) z) (record { lawful = ih z .lawful; short = omega (arith, ih z .short) })
       go ih (inr z) = behind r rs p a y z l
 
   -- the bytes themselves, before the rest
-  middle : (q n : ℕ) (ts : List Range) → (q ≡ i → ⊥) → Laid i (s .high) ts n → Laid q (s .low) (range (s .low) (s .high - 1) i ∷ ts) (suc n)
+  middle : (q n : ℕ) (ts : List Range) → (q ≡ i → ⊥) → Overlaid i (s .high) ts n → Overlaid q (s .low) (range (s .low) (s .high - 1) i ∷ ts) (suc n)
   middle q n ts d t =
       let e : s .high ≡ suc (s .high - 1) = omega arith in
       record {
@@ -179,8 +170,8 @@ module _ (s : Span) (i : ℕ) (own : ℕ → ℕ) (lt : s .low < s .high) (le : 
       }
 
   -- what is left of a range before the bytes
-  front : (p a n : ℕ) (r : Range) (ts : List Range) → Head own p a r → a < s .low → s .low ≤ r .last → Laid (r .owner) (s .low) ts n
-      → Laid p a (range (r .first) (s .low - 1) (r .owner) ∷ ts) (suc n)
+  front : (p a n : ℕ) (r : Range) (ts : List Range) → Head own p a r → a < s .low → s .low ≤ r .last → Overlaid (r .owner) (s .low) ts n
+      → Overlaid p a (range (r .first) (s .low - 1) (r .owner) ∷ ts) (suc n)
   front p a n r ts h x y t =
       let e : s .low ≡ suc (s .low - 1) = omega arith in
       record {
@@ -196,31 +187,31 @@ module _ (s : Span) (i : ℕ) (own : ℕ → ℕ) (lt : s .low < s .high) (le : 
         short = omega (arith, t .short);
       }
 
-  longer : (p a n m : ℕ) (rs : List Range) → n ≤ m → Laid p a rs n → Laid p a rs m
+  longer : (p a n m : ℕ) (rs : List Range) → n ≤ m → Overlaid p a rs n → Overlaid p a rs m
   longer p a n m rs h t = record { lawful = t .lawful; short = omega (arith, t .short) }
 
   -- the whole list, where the old one stands before the bytes or starts with them
-  before : (rs : List Range) (p a : ℕ) → a ≤ s .low → (p ≡ i → ⊥) → Lawful own p a rs → Laid p a (overlay s i rs) (length rs + 2)
+  before : (rs : List Range) (p a : ℕ) → a ≤ s .low → (p ≡ i → ⊥) → Lawful own p a rs → Overlaid p a (overlay s i rs) (length rs + 2)
   before [] p a x d l = absurd (omega (arith, l))
   before (r ∷ rs) p a x d l = go (λ z. before rs (r .owner) (suc (r .last)) z (other p a r (l .0)) (l .1)) (less (r .last) (s .low)) (less a (s .low))
     where
-      tail : s .low ≤ r .last → (r .last < s .high) ⊎ (s .high ≤ r .last) → Laid i (s .high) (rest s r ++ overlay s i rs) (suc (length rs))
+      tail : s .low ≤ r .last → (r .last < s .high) ⊎ (s .high ≤ r .last) → Overlaid i (s .high) (rest s r ++ overlay s i rs) (suc (length rs))
       tail y (inl z) =
-          rw (part-none (s .high) (suc (r .last)) (r .owner) z)
+          rw (up-to-none (s .high) (suc (r .last)) (r .owner) z)
           (longer i (s .high) (length rs) (suc (length rs)) (overlay s i rs) (omega arith)
           (within rs (r .owner) (suc (r .last)) (omega arith) z (l .1)))
       tail y (inr z) = behind r rs p a (omega arith) z l
 
-      go : (suc (r .last) ≤ s .low → Laid (r .owner) (suc (r .last)) (overlay s i rs) (length rs + 2))
-          → (r .last < s .low) ⊎ (s .low ≤ r .last) → (a < s .low) ⊎ (s .low ≤ a) → Laid p a (overlay s i (r ∷ rs)) (suc (length rs) + 2)
+      go : (suc (r .last) ≤ s .low → Overlaid (r .owner) (suc (r .last)) (overlay s i rs) (length rs + 2))
+          → (r .last < s .low) ⊎ (s .low ≤ r .last) → (a < s .low) ⊎ (s .low ≤ a) → Overlaid p a (overlay s i (r ∷ rs)) (suc (length rs) + 2)
       go ih (inl z) w =
-          rw (laid-before s i lt r (omega (arith, l .0 .starts, l .0 .some)) z)
+          rw (overlay-before s i lt r (omega (arith, l .0 .starts, l .0 .some)) z)
           (longer p a (suc (length rs + 2)) (suc (length rs) + 2) (r ∷ overlay s i rs) (omega arith)
           (keep p p a (length rs + 2) r (overlay s i rs) (l .0) (l .0 .differs) (inr z) (ih z)))
       go ih (inr z) (inl w) =
           rw (
-            laid-over s i lt r (omega (arith, l .0 .starts)) z,
-            part-some (r .first) (s .low) (r .owner) (omega (arith, l .0 .starts)),
+            overlay-over s i lt r (omega (arith, l .0 .starts)) z,
+            up-to-some (r .first) (s .low) (r .owner) (omega (arith, l .0 .starts)),
           )
           (longer p a (suc (suc (suc (length rs)))) (suc (length rs) + 2) _ (omega arith)
           (front p a (suc (suc (length rs))) r _ (l .0) w z
@@ -228,10 +219,10 @@ module _ (s : Span) (i : ℕ) (own : ℕ → ℕ) (lt : s .low < s .high) (le : 
       go ih (inr z) (inr w) =
           let e : s .low ≡ a = omega arith in
           rw (
-            laid-over s i lt r (omega (arith, l .0 .starts)) z,
-            part-none (r .first) (s .low) (r .owner) (omega (arith, l .0 .starts)),
+            overlay-over s i lt r (omega (arith, l .0 .starts)) z,
+            up-to-none (r .first) (s .low) (r .owner) (omega (arith, l .0 .starts)),
           )
-          (subst (λ (k : ℕ). Laid p k (range (s .low) (s .high - 1) i ∷ (rest s r ++ overlay s i rs)) (suc (length rs) + 2)) e
+          (subst (λ (k : ℕ). Overlaid p k (range (s .low) (s .high - 1) i ∷ (rest s r ++ overlay s i rs)) (suc (length rs) + 2)) e
           (longer p (s .low) (suc (suc (length rs))) (suc (length rs) + 2) _ (omega arith)
           (middle p (suc (length rs)) _ d (tail z (less (r .last) (s .high))))))
 
@@ -263,12 +254,9 @@ paint-lawful s i own n rs le small fresh t = go (less (s .low) (s .high))
 abbrev pub ownerFrom : (ℕ → Span) → ℕ → ℕ → ℕ
 ownerFrom spans n b = lowest (λ j. contains (spans j) b) n (16 - n)
 
-owner-step : (spans : ℕ → Span) (n b : ℕ) → n < 16 → over (spans (15 - n)) (15 - n) (ownerFrom spans n) b ≡ ownerFrom spans (suc n) b
+owner-step : (spans : ℕ → Span) (n b : ℕ) → n < 16 → over (spans (16 - suc n)) (16 - suc n) (ownerFrom spans n) b ≡ ownerFrom spans (suc n) b
 unfolding lowest
-owner-step spans n b h =
-    let e : 16 - suc n ≡ 15 - n = omega arith in
-    let d : suc (15 - n) ≡ 16 - n = omega arith in
-    rw (e, d)
+owner-step spans n b h = let e : suc (16 - suc n) ≡ 16 - n = omega arith in rw e
 
 module _ (spans : ℕ → Span) (below : (k : ℕ) → k < 16 → spans k .high ≤ top) where
   -- the ranges by the last n entries are lawful, and at most 1 + 2 n
@@ -279,21 +267,21 @@ module _ (spans : ℕ → Span) (below : (k : ℕ) → k < 16 → spans k .high 
     short = omega arith;
   }
   painted-lawful (suc n) h =
-      let t = paint-lawful (spans (15 - n)) (15 - n) (ownerFrom spans n) (1 + 2 * n) (painted spans n) (below (15 - n) (omega arith)) (omega arith)
+      let t = paint-lawful (spans (16 - suc n)) (16 - suc n) (ownerFrom spans n) (1 + 2 * n) (painted spans n) (below (16 - suc n) (omega arith)) (omega arith)
       (λ b e. omega (arith, lowest-within (λ j. contains (spans j) b) n (16 - n) .0))
       (painted-lawful n (omega arith)) in
-      same-owner (over (spans (15 - n)) (15 - n) (ownerFrom spans n)) (ownerFrom spans (suc n)) 17 0 (1 + 2 * suc n) (painted spans (suc n))
+      same-owner (over (spans (16 - suc n)) (16 - suc n) (ownerFrom spans n)) (ownerFrom spans (suc n)) 17 0 (1 + 2 * suc n) (painted spans (suc n))
       (λ b. owner-step spans n b (omega arith))
       (record { lawful = t .lawful; short = omega (arith, t .short) })
 
 -- what is painted goes by the bytes of the sixteen entries that match some
-pub painted-same : (spans spans′ : ℕ → Span) → ((k : ℕ) → k < 16 → spans′ k ≡ settled (spans k)) → (n : ℕ) → n ≤ 16
+pub painted-same : (spans spans′ : ℕ → Span) → ((k : ℕ) → k < 16 → spans′ k ≡ normalized (spans k)) → (n : ℕ) → n ≤ 16
     → painted spans n ≡ painted spans′ n
 unfolding painted
 painted-same spans spans′ h zero l = refl
 painted-same spans spans′ h (suc n) l =
-    rw (h (15 - n) (omega arith), ← painted-same spans spans′ h n (omega arith)) (go (spans (15 - n)) (less (spans (15 - n) .low) (spans (15 - n) .high)))
+    rw (h (16 - suc n) (omega arith), ← painted-same spans spans′ h n (omega arith)) (go (spans (16 - suc n)) (less (spans (16 - suc n) .low) (spans (16 - suc n) .high)))
   where
-    go : (s : Span) → (s .low < s .high) ⊎ (s .high ≤ s .low) → paint s (15 - n) (painted spans n) ≡ paint (settled s) (15 - n) (painted spans n)
-    go s (inl x) = let e : settled s ≡ s = rw (lt-ltb (s .low) (s .high) x) in ap (λ (t : Span). paint t (15 - n) (painted spans n)) (sym e)
+    go : (s : Span) → (s .low < s .high) ⊎ (s .high ≤ s .low) → paint s (16 - suc n) (painted spans n) ≡ paint (normalized s) (16 - suc n) (painted spans n)
+    go s (inl x) = let e : normalized s ≡ s = rw (lt-ltb (s .low) (s .high) x) in ap (λ (t : Span). paint t (16 - suc n) (painted spans n)) (sym e)
     go s (inr x) = rw (le-ltb (s .low) (s .high) x)

@@ -7,6 +7,7 @@ use mathlib.Core.Logic.{_⊎_, inl, inr}
 use native.Mathlib.Omega.{arith}
 use lib.Dec.{leb}
 use borrow.Author.Tests.{le-leb, lt-leb}
+use Rattle.bits.proofs.Conjunction.{contradiction, not-true-false}
 use Rattle.pmp.specs.declared.Mode.{Mode}
 use Rattle.pmp.specs.declared.Access.{Access}
 use Rattle.pmp.specs.declared.Decision.{Decision}
@@ -15,17 +16,18 @@ use Rattle.pmp.specs.Number.{faultCause}
 use Rattle.pmp.specs.Search.{everyByte}
 use Rattle.pmp.specs.Entry.{top}
 use Rattle.pmp.specs.Rule.{none, ownerOf, ownerDecides, isSize, byteRule}
-use Rattle.pmp.proofs.SearchLaws.{contradiction, not-true-false, every-all, every-passes}
+use Rattle.pmp.proofs.SearchLaws.{every-all, every-passes}
 use Rattle.pmp.proofs.RuleLaws.{none-beyond, some-beyond, beyond-faults, size-bounds}
 use Rattle.pmp.proofs.Owner.{owner-bound, one-owner, two-owners}
 use Rattle.map.specs.declared.Range.{Range}
 use Rattle.map.specs.declared.Map.{Map}
 use Rattle.map.specs.declared.Found.the-variants.{At, Nothing}
 use Rattle.map.specs.Lookup.{holdsByte, findRange, rangesIn}
-use Rattle.map.specs.Ranges.{rangesOf, compiled}
+use Rattle.map.specs.Painting.{rangesOf}
+use Rattle.map.specs.Compiled.{compiled}
 use Rattle.map.specs.Query.{rangeDecides, queried}
 use Rattle.map.proofs.Lawful.{less}
-use Rattle.map.proofs.LookupLaws.{Hit, hit}
+use Rattle.map.proofs.LookupLaws.{holds-in, holds-behind, Hit, hit}
 use Rattle.map.proofs.MapLaws.{lawful-ranges, read-back}
 
 -- a range that holds the first byte holds all exactly where it reaches the last
@@ -36,15 +38,13 @@ holds-all r size address p f l = go (less (r .last - address) (size - 1))
     go : (r .last - address < size - 1) ⊎ (size - 1 ≤ r .last - address)
         → everyByte (holdsByte r) size address ≡ leb (size - 1) (r .last - address)
     go (inl x) =
-        let past : holdsByte r (suc (r .last)) ≡ false =
-        rw (le-leb (r .first) (suc (r .last)) (omega arith), lt-leb (suc (r .last)) (r .last) (omega arith)) in
         rw (lt-leb (size - 1) (r .last - address) x)
         (not-true-false (everyByte (holdsByte r) size address)
-        (λ t. contradiction (every-passes (holdsByte r) size address (suc (r .last)) t (omega arith) (omega arith)) past))
+        (λ t. contradiction (every-passes (holdsByte r) size address (suc (r .last)) t (omega arith) (omega arith)) (holds-behind r (suc (r .last)) (omega arith))))
     go (inr x) =
         rw (le-leb (size - 1) (r .last - address) x)
         (every-all (holdsByte r) size address
-        (λ b u v. rw (le-leb (r .first) b (omega arith), le-leb b (r .last) (omega arith))))
+        (λ b u v. holds-in r b (omega arith) (omega arith)))
 
 module _ (cfgs : List ℕ) (mode : Mode) (access : Access) (address size : ℕ) where
   -- a map's range is read once the size is right and all bytes lie in memory

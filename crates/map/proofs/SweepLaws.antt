@@ -12,15 +12,16 @@ use Rattle.pmp.specs.declared.Span.{Span}
 use Rattle.pmp.specs.Entry.{top, entrySpan, span}
 use Rattle.pmp.proofs.EntryLaws.{span-bounds}
 use Rattle.map.specs.declared.Range.{Range}
-use Rattle.map.specs.Ranges.{painted, rangesOf, padding, mapOf, compiled}
-use Rattle.map.specs.Sweep.{settled, Settled, spansIn, rangeFrom}
+use Rattle.map.specs.Painting.{painted, rangesOf}
+use Rattle.map.specs.Compiled.{padding, mapOf, compiled}
+use Rattle.map.specs.Sweep.{normalized, Normalized, spansIn, rangeFrom}
 use Rattle.map.proofs.Lawful.{less, Lawful, head-run, same-run, from-bound}
 use Rattle.map.proofs.Painting.{Short, painted-lawful, painted-same}
-use Rattle.map.proofs.RunLaws.{lowestOwner, Reached, range-run}
+use Rattle.map.proofs.RangeFromLaws.{lowestOwner, Reached, range-run}
 
 -- ---- the ranges one after another: those found, in the array's first places, and those left, which start at the next byte
 
-module _ (spans : ℕ → Span) (known : Settled spans) where
+module _ (spans : ℕ → Span) (known : Normalized spans) where
   all-lawful : Short (lowestOwner spans) 17 0 (painted spans 16) 33
   all-lawful = painted-lawful spans (known .below) 16 (omega arith)
 
@@ -33,7 +34,7 @@ pub record Swept (spans : ℕ → Span) (ranges : List Range) (count at : ℕ) :
   pub filled : ranges ≡ done ++ replicate (33 - count) padding
   pub lawful : Lawful (lowestOwner spans) before at left
 
-module _ (spans : ℕ → Span) (known : Settled spans) where
+module _ (spans : ℕ → Span) (known : Normalized spans) where
   pub swept-start : Swept spans (replicate 33 padding) 0 0
   swept-start = record {
     done = [];
@@ -98,43 +99,43 @@ module _ (spans : ℕ → Span) (known : Settled spans) where
 
 -- ---- the arrays of the entries' first bytes and ends
 
-module _ (s t : Span) (e : t ≡ settled s) where
-  settled-cases : (t ≡ s × s .low < s .high) ⊎ (t ≡ span 0 0)
-  settled-cases = go (less (s .low) (s .high))
+module _ (s t : Span) (e : t ≡ normalized s) where
+  normalized-cases : (t ≡ s × s .low < s .high) ⊎ (t ≡ span 0 0)
+  normalized-cases = go (less (s .low) (s .high))
     where
       go : (s .low < s .high) ⊎ (s .high ≤ s .low) → (t ≡ s × s .low < s .high) ⊎ (t ≡ span 0 0)
       go (inl x) = inl (rw (lt-ltb (s .low) (s .high) x) at e, x)
       go (inr x) = inr (rw (le-ltb (s .low) (s .high) x) at e)
 
   -- one that does not start at 0 has a byte
-  settled-some : 0 < t .low → t .low < t .high
-  settled-some h =
-      ⊎-elim (λ w. rw (w .0) (w .1)) (λ w. let z : t .low ≡ 0 = ap (λ (x : Span). x .low) w in absurd (omega arith)) settled-cases
+  normalized-some : 0 < t .low → t .low < t .high
+  normalized-some h =
+      ⊎-elim (λ w. rw (w .0) (w .1)) (λ w. let z : t .low ≡ 0 = ap (λ (x : Span). x .low) w in absurd (omega arith)) normalized-cases
 
-  settled-below : s .high ≤ top → t .high ≤ top
-  settled-below h = ⊎-elim (λ w. rw (w .0) h) (λ w. rw w (omega arith)) settled-cases
+  normalized-below : s .high ≤ top → t .high ≤ top
+  normalized-below h = ⊎-elim (λ w. rw (w .0) h) (λ w. rw w (omega arith)) normalized-cases
 
 -- they hold the bytes of the entries below i
 abbrev pub Filled : List ℕ → List ℕ → List ℕ → List ℕ → ℕ → Type 0
-Filled cfgs addrs lows highs i = (k : ℕ) → k < i → spansIn lows highs k ≡ settled (entrySpan cfgs addrs k)
+Filled cfgs addrs lows highs i = (k : ℕ) → k < i → spansIn lows highs k ≡ normalized (entrySpan cfgs addrs k)
 
 module _ (cfgs addrs lows highs : List ℕ) where
   pub filled-next : (i : ℕ) (s t : Span) → length lows ≡ 16 → length highs ≡ 16 → i < 16 → Filled cfgs addrs lows highs i
-      → s ≡ entrySpan cfgs addrs i → t ≡ settled s → Filled cfgs addrs (set lows i (t .low)) (set highs i (t .high)) (i + 1)
+      → s ≡ entrySpan cfgs addrs i → t ≡ normalized s → Filled cfgs addrs (set lows i (t .low)) (set highs i (t .high)) (i + 1)
   filled-next i s t m n h f e d k l = go (less k i)
     where
-      go : (k < i) ⊎ (i ≤ k) → spansIn (set lows i (t .low)) (set highs i (t .high)) k ≡ settled (entrySpan cfgs addrs k)
+      go : (k < i) ⊎ (i ≤ k) → spansIn (set lows i (t .low)) (set highs i (t .high)) k ≡ normalized (entrySpan cfgs addrs k)
       go (inl x) =
           let other : k ≡ i → ⊥ = λ q. omega arith in
           rw (getD-set-other lows i k (t .low) 0 other, getD-set-other highs i k (t .high) 0 other) (f k x)
       go (inr x) =
           let q : k ≡ i = omega arith in
-          rw (q, getD-set-same lows i (t .low) 0 (omega arith), getD-set-same highs i (t .high) 0 (omega arith)) (d ∙ ap settled e)
+          rw (q, getD-set-same lows i (t .low) 0 (omega arith), getD-set-same highs i (t .high) 0 (omega arith)) (d ∙ ap normalized e)
 
-  pub filled-settled : Filled cfgs addrs lows highs 16 → Settled (spansIn lows highs)
-  filled-settled f = record {
-    some = λ k h l. settled-some (entrySpan cfgs addrs k) (spansIn lows highs k) (f k h) l;
-    below = λ k h. settled-below (entrySpan cfgs addrs k) (spansIn lows highs k) (f k h) (span-bounds _ _ _ .1);
+  pub filled-normalized : Filled cfgs addrs lows highs 16 → Normalized (spansIn lows highs)
+  filled-normalized f = record {
+    some = λ k h l. normalized-some (entrySpan cfgs addrs k) (spansIn lows highs k) (f k h) l;
+    below = λ k h. normalized-below (entrySpan cfgs addrs k) (spansIn lows highs k) (f k h) (span-bounds _ _ _ .1);
   }
 
   pub filled-compiled : Filled cfgs addrs lows highs 16 → mapOf (painted (spansIn lows highs) 16) ≡ compiled cfgs addrs

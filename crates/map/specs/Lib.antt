@@ -1,5 +1,8 @@
 -- The definitions that the contracts cite.
 pub mod Lookup
 pub mod Ranges
+pub mod Edges
+pub mod Painting
+pub mod Compiled
 pub mod Query
 pub mod Sweep

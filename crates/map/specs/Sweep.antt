@@ -1,22 +1,22 @@
--- How the ranges are found from the lowest byte up: each reaches to where the owner changes.
+-- The algorithm of `compile`, and no rule of 01: the ranges are found from the lowest byte up, each to where the owner changes.
 use Prim.Native.Nat.{ℕ, zero, suc, _-_, _≤_, _<_, min}
 use mathlib.Core.Bool.{cond}
 use mathlib.Core.List.{List}
 use lib.Dec.{ltb}
 use lib.ListN.{getD}
 use Rattle.pmp.specs.declared.Span.{Span}
-use Rattle.pmp.specs.Entry.{top, span}
+use Rattle.pmp.specs.Entry.{top, entries, span}
 use Rattle.map.specs.declared.Range.{Range}
 use Rattle.map.specs.Ranges.{range}
 
 -- an entry that matches no byte stands as the bytes from 0 up to 0
-abbrev pub settled : Span → Span
-settled s = cond (ltb (s .low) (s .high)) s (span 0 0)
+abbrev pub normalized : Span → Span
+normalized s = cond (ltb (s .low) (s .high)) s (span 0 0)
 
--- sixteen entries' bytes of which each starts nowhere past 0 but where there are some
-pub record Settled (spans : ℕ → Span) : Type 0 where
-  pub some : (i : ℕ) → i < 16 → 0 < spans i .low → spans i .low < spans i .high
-  pub below : (i : ℕ) → i < 16 → spans i .high ≤ top
+-- entries' bytes of which each starts nowhere past 0 but where there are some
+pub record Normalized (spans : ℕ → Span) : Type 0 where
+  pub some : (i : ℕ) → i < entries → 0 < spans i .low → spans i .low < spans i .high
+  pub below : (i : ℕ) → i < entries → spans i .high ≤ top
 
 -- the entries' bytes, from the arrays of their first bytes and of their ends
 abbrev pub spansIn : List ℕ → List ℕ → ℕ → Span

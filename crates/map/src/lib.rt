@@ -1,12 +1,14 @@
 // The protection map: at most 33 ranges of bytes, each with the lowest entry that matches its bytes, and access queries on it.
+use pmp::TOP;
 ghost use mathlib.Core.Path.{_≡_};
 ghost use Prim.Native.Nat.{_≤_, _<_, min};
-ghost use Rattle.pmp.specs.Entry.{top};
+ghost use Rattle.pmp.specs.Entry.{top, entries};
 ghost use Rattle.map.specs.Lookup.{holdsByte, findRange, rangesIn};
 ghost use Rattle.map.specs.declared.Found.the-variants.{At};
-ghost use Rattle.map.specs.Ranges.{painted, mapOf, compiled};
+ghost use Rattle.map.specs.Painting.{painted};
+ghost use Rattle.map.specs.Compiled.{mapOf, compiled};
 ghost use Rattle.map.specs.Query.{rangeDecides, queried};
-ghost use Rattle.map.specs.Sweep.{settled, Settled, spansIn, rangeFrom};
+ghost use Rattle.map.specs.Sweep.{normalized, Normalized, spansIn, rangeFrom};
 
 // The bytes from `first` to `last`, both included. The owner is an entry, 0 to 15, or 16 for none; any number can be given.
 pub struct Range {
@@ -27,9 +29,6 @@ pub enum Found {
     Nothing,
 }
 
-// 2^56: the first byte past physical memory.
-const TOP: u64 = 0x100000000000000;
-
 fn smaller(a: u64, b: u64) -> u64
     ensures { λ r. ⌜ r ≡ min a b ⌝ }
 {
@@ -37,8 +36,8 @@ fn smaller(a: u64, b: u64) -> u64
 }
 
 // An entry that matches no byte starts nowhere: 0 up to 0 stands for it.
-fn settle(span: pmp::Span) -> pmp::Span
-    ensures { λ r. ⌜ r ≡ settled span ⌝ }
+fn normalize(span: pmp::Span) -> pmp::Span
+    ensures { λ r. ⌜ r ≡ normalized span ⌝ }
 {
     if span.low < span.high {
         span
@@ -49,7 +48,7 @@ fn settle(span: pmp::Span) -> pmp::Span
 
 // The range from byte `at` on: it ends with its owner's bytes, or before the bytes of a lower entry.
 fn range_from(lows: &[u64; 16], highs: &[u64; 16], at: u64) -> Range
-    ensures { λ r. ⌜ r ≡ rangeFrom (spansIn (now (lows .entry)) (now (highs .entry))) at 16 0 top ⌝ }
+    ensures { λ r. ⌜ r ≡ rangeFrom (spansIn (now (lows .entry)) (now (highs .entry))) at entries 0 top ⌝ }
 {
     let mut end = TOP;
     let mut entry = 0;
@@ -80,8 +79,8 @@ fn range_from(lows: &[u64; 16], highs: &[u64; 16], at: u64) -> Range
 // The map of sixteen entries, range by range from the lowest byte up. Two neighbours never have one owner, since each range ends where the owner
 // changes; and no place past the 33rd is written, since there are no more ranges.
 fn sweep(lows: &[u64; 16], highs: &[u64; 16]) -> Map
-    requires { ⌜ Settled (spansIn (now lows) (now highs)) ⌝ }
-    ensures { λ r. ⌜ r ≡ mapOf (painted (spansIn (now (lows .entry)) (now (highs .entry))) 16) ⌝ }
+    requires { ⌜ Normalized (spansIn (now lows) (now highs)) ⌝ }
+    ensures { λ r. ⌜ r ≡ mapOf (painted (spansIn (now (lows .entry)) (now (highs .entry))) entries) ⌝ }
 {
     let mut ranges = [Range {
         first: 0,
@@ -112,7 +111,7 @@ pub fn compile(cfgs: [u8; 16], addrs: [u64; 16]) -> Map
     let mut entry: usize = 0;
     while entry < 16 {
         let addr = addrs[entry];
-        let span = settle(pmp::entry_span(cfgs[entry], addr, before));
+        let span = normalize(pmp::entry_span(cfgs[entry], addr, before));
         lows[entry] = span.low;
         highs[entry] = span.high;
         before = addr;
@@ -121,8 +120,8 @@ pub fn compile(cfgs: [u8; 16], addrs: [u64; 16]) -> Map
     sweep(&lows, &highs)
 }
 
-// The number of ranges by which a map is read.
-fn count_read(count: u64) -> usize
+// The number of ranges by which a map is read: a count above 33 is read as 33.
+pub fn count_read(count: u64) -> usize
     ensures { λ r. ⌜ r ≡ min count 33 ⌝ }
 {
     if count < 33 { count as usize } else { 33 }

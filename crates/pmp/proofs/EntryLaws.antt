@@ -10,9 +10,9 @@ use lib.Dec.{leb, ltb, eqb}
 use lib.ListN.{getD}
 use lib.Pow.{pow-add, pow-lt, pow-mono, pow-pos}
 use borrow.Author.Tests.{leb-true, ltb-true, le-leb, lt-leb, lt-ltb}
+use Rattle.bits.proofs.Conjunction.{both, not-true-false}
 use Rattle.pmp.specs.declared.Span.{Span}
 use Rattle.pmp.specs.Entry.{top, trailingOnes, napot, spanOf, addressBefore, contains}
-use Rattle.pmp.proofs.SearchLaws.{and-true, not-true-false}
 
 -- two spans with equal ends are equal
 pub span-same : {a b c d : ℕ} → a ≡ c → b ≡ d → _≡_ {A = Span} (record { low = a; high = b }) (record { low = c; high = d })
@@ -117,7 +117,7 @@ span-bounds (suc (suc (suc a))) addr before = omega arith
 module _ (s : Span) (byte : ℕ) where
   pub contains-bounds : contains s byte ≡ true → (s .low ≤ byte) × (byte < s .high)
   contains-bounds e =
-      let both = and-true (leb (s .low) byte) (ltb byte (s .high)) e in (leb-true _ _ (both .0), ltb-true _ _ (both .1))
+      let w = both (leb (s .low) byte) (ltb byte (s .high)) e in (leb-true _ _ (w .0), ltb-true _ _ (w .1))
 
   pub contains-inside : s .low ≤ byte → byte < s .high → contains s byte ≡ true
   contains-inside l h = rw (le-leb _ _ l, lt-ltb _ _ h)

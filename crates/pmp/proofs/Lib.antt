@@ -3,3 +3,4 @@ pub mod SearchLaws
 pub mod EntryLaws
 pub mod RuleLaws
 pub mod Owner
+pub mod Answered

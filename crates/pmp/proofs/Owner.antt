@@ -7,6 +7,7 @@ use Prim.Native.Nat.{ℕ, _+_, _≤_, _<_}
 use native.Mathlib.Omega.{arith}
 use native.Mathlib.Decide.{decLt}
 use borrow.Author.Tests.{lt-ltb, le-ltb}
+use Rattle.bits.proofs.Conjunction.{not-true-false}
 use Rattle.pmp.specs.declared.Mode.{Mode}
 use Rattle.pmp.specs.declared.Access.{Access}
 use Rattle.pmp.specs.declared.Decision.the-variants.{Fault}
@@ -14,7 +15,7 @@ use Rattle.pmp.specs.Number.{faultCause}
 use Rattle.pmp.specs.Search.{anyByte, everyByte}
 use Rattle.pmp.specs.Entry.{top, matches}
 use Rattle.pmp.specs.Rule.{lowestMatch, matchDecides, byteRule, ownerOf, ownerDecides}
-use Rattle.pmp.proofs.SearchLaws.{lowest-fails, lowest-passes, lowest-within, lowest-unique, any-fails, any-none, any-some, every-passes, every-all, not-true-false}
+use Rattle.pmp.proofs.SearchLaws.{lowest-fails, lowest-passes, lowest-within, lowest-unique, any-fails, any-none, any-some, every-passes, every-all}
 use Rattle.pmp.proofs.RuleLaws.{match-decides, none-decides, inside-decides}
 
 module _ (cfgs addrs : List ℕ) where

@@ -1,13 +1,14 @@
 -- Laws of the byte rule, by cases. Assumes nothing.
-use mathlib.Core.Path.{_≡_, refl, sym, ap, _∙_}
+use mathlib.Core.Path.{_≡_, sym, ap, _∙_}
 use mathlib.Core.Bool.{Bool, true, false, cond, _||_}
-use mathlib.Core.Logic.{_⊎_, inl, inr, ⊎-elim}
+use mathlib.Core.Logic.{⊎-elim}
 use mathlib.Core.List.{List}
 use Prim.Native.Nat.{ℕ, _+_, _-_, _≤_, _<_}
 use native.Mathlib.Omega.{arith}
 use lib.Dec.{leb, eqb}
 use lib.ListN.{getD}
 use borrow.Author.Tests.{lt-ltb, le-ltb, le-leb, lt-leb, eqb-true}
+use Rattle.bits.proofs.Conjunction.{one-of}
 use Rattle.pmp.specs.declared.Mode.{Mode}
 use Rattle.pmp.specs.declared.Access.{Access}
 use Rattle.pmp.specs.declared.Span.{Span}
@@ -57,19 +58,15 @@ module _ (cfgs addrs : List ℕ) (mode : Mode) (access : Access) (address size :
   unfolding byteRule
   beyond-faults p h = rw (some-beyond top size address p h)
 
-or-cases : (a b : Bool) → (a || b) ≡ true → (a ≡ true) ⊎ (b ≡ true)
-or-cases true b e = inl refl
-or-cases false b e = inr e
-
 -- a size is at least 1 and at most 8
 pub size-bounds : (size : ℕ) → isSize size ≡ true → (0 < size) × (size ≤ 8)
 size-bounds n e =
     ⊎-elim (λ x. let q : n ≡ 1 = eqb-true n 1 x in omega arith)
     (λ y. ⊎-elim (λ x. let q : n ≡ 2 = eqb-true n 2 x in omega arith)
     (λ y. ⊎-elim (λ x. let q : n ≡ 4 = eqb-true n 4 x in omega arith)
-    (λ x. let q : n ≡ 8 = eqb-true n 8 x in omega arith) (or-cases (eqb n 4) (eqb n 8) y))
-    (or-cases (eqb n 2) (eqb n 4 || eqb n 8) y))
-    (or-cases (eqb n 1) (eqb n 2 || (eqb n 4 || eqb n 8)) e)
+    (λ x. let q : n ≡ 8 = eqb-true n 8 x in omega arith) (one-of (eqb n 4) (eqb n 8) y))
+    (one-of (eqb n 2) (eqb n 4 || eqb n 8) y))
+    (one-of (eqb n 1) (eqb n 2 || (eqb n 4 || eqb n 8)) e)
 
 -- ---- the decision on an access of any size
 

@@ -1,58 +1,31 @@
 -- Laws of `lowest`, `anyByte` and `everyByte`: how a loop computes them, and what they say of each number. Assumes nothing.
 use mathlib.Core.Path.{_≡_, refl, sym, ap, _∙_}
-use mathlib.Core.Bool.{Bool, true, false, cond, _&&_, _||_, true≢false}
+use mathlib.Core.Bool.{Bool, true, false, not, cond, _&&_, _||_}
 use Prim.Native.Nat.{ℕ, zero, suc, _+_, _-_, _≤_, _<_}
 use native.Mathlib.Numerals.{add-one}
 use native.Mathlib.Omega.{arith}
 use native.Mathlib.Decide.{decLe}
+use borrow.Author.Tests.{not-true, not-false}
+use Rattle.bits.proofs.Conjunction.{contradiction, not-false-true, both}
 use Rattle.pmp.specs.Search.{lowest, anyByte, everyByte}
 
-pub contradiction : {A : Type 0} {b : Bool} → b ≡ true → b ≡ false → A
-contradiction p q = absurd (true≢false (sym p ∙ q))
+abbrev fails : (ℕ → Bool) → ℕ → Bool
+fails test b = not (test b)
 
-pub not-false-true : (b : Bool) → (b ≡ false → ⊥) → b ≡ true
-not-false-true true h = refl
-not-false-true false h = absurd (h refl)
-
-pub not-true-false : (b : Bool) → (b ≡ true → ⊥) → b ≡ false
-not-true-false true h = absurd (h refl)
-not-true-false false h = refl
-
-pub or-false : (a b : Bool) → (a || b) ≡ false → (a ≡ false) × (b ≡ false)
-or-false true b e = contradiction refl e
-or-false false b e = (refl, e)
-
-pub and-true : (a b : Bool) → (a && b) ≡ true → (a ≡ true) × (b ≡ true)
-and-true true b e = (refl, e)
-and-true false b e = contradiction e refl
+-- some byte passes where not every byte fails, so that each law of `anyByte` is one of `everyByte`
+any-every : (test : ℕ → Bool) (n address : ℕ) → anyByte test n address ≡ not (everyByte (fails test) n address)
+unfolding anyByte everyByte
+any-every test zero address = refl
+any-every test (suc n) address = go (test address) (any-every test n (suc address))
+  where
+    go : (b : Bool) → anyByte test n (suc address) ≡ not (everyByte (fails test) n (suc address))
+        → (b || anyByte test n (suc address)) ≡ not (not b && everyByte (fails test) n (suc address))
+    go true e = refl
+    go false e = e
 
 -- ---- a loop over the bytes: byte i is at address + i, and n - i bytes are left
 
 module _ (test : ℕ → Bool) (n address : ℕ) where
-  pub any-start : anyByte test n address ≡ anyByte test (n - 0) (address + 0)
-  any-start =
-      let e : n - 0 ≡ n = omega arith in
-      let s : address + 0 ≡ address = omega arith in
-      rw (e, s)
-
-  any-step : (i : ℕ) → i < n → anyByte test (n - i) (address + i) ≡ (test (address + i) || anyByte test (n - (i + 1)) (address + (i + 1)))
-  unfolding anyByte
-  any-step i h =
-      let e : n - i ≡ suc (n - (i + 1)) = omega arith in
-      let s : address + (i + 1) ≡ suc (address + i) = omega arith in
-      rw (e, s)
-
-  pub any-next : (i : ℕ) → i < n → test (address + i) ≡ false
-      → anyByte test (n - i) (address + i) ≡ anyByte test (n - (i + 1)) (address + (i + 1))
-  any-next i h e = any-step i h ∙ ap (λ (b : Bool). b || anyByte test (n - (i + 1)) (address + (i + 1))) e
-
-  pub any-found : (i : ℕ) → i < n → test (address + i) ≡ true → anyByte test (n - i) (address + i) ≡ true
-  any-found i h e = any-step i h ∙ ap (λ (b : Bool). b || anyByte test (n - (i + 1)) (address + (i + 1))) e
-
-  pub any-end : (i : ℕ) → n ≤ i → anyByte test (n - i) (address + i) ≡ false
-  unfolding anyByte
-  any-end i h = let e : n - i ≡ 0 = omega arith in rw e
-
   pub every-start : everyByte test n address ≡ everyByte test (n - 0) (address + 0)
   every-start =
       let e : n - 0 ≡ n = omega arith in
@@ -76,6 +49,20 @@ module _ (test : ℕ → Bool) (n address : ℕ) where
   pub every-end : (i : ℕ) → n ≤ i → everyByte test (n - i) (address + i) ≡ true
   unfolding everyByte
   every-end i h = let e : n - i ≡ 0 = omega arith in rw e
+
+module _ (test : ℕ → Bool) (n address : ℕ) where
+  pub any-start : anyByte test n address ≡ anyByte test (n - 0) (address + 0)
+  any-start = simp any-every (ap not (every-start (fails test) n address))
+
+  pub any-next : (i : ℕ) → i < n → test (address + i) ≡ false
+      → anyByte test (n - i) (address + i) ≡ anyByte test (n - (i + 1)) (address + (i + 1))
+  any-next i h e = simp any-every (ap not (every-next (fails test) n address i h (ap not e)))
+
+  pub any-found : (i : ℕ) → i < n → test (address + i) ≡ true → anyByte test (n - i) (address + i) ≡ true
+  any-found i h e = any-every test (n - i) (address + i) ∙ ap not (every-missed (fails test) n address i h (ap not e))
+
+  pub any-end : (i : ℕ) → n ≤ i → anyByte test (n - i) (address + i) ≡ false
+  any-end i h = any-every test (n - i) (address + i) ∙ ap not (every-end (fails test) n address i h)
 
 -- ---- a loop over the numbers below n: i is the next one. At i = 0 the search is whole.
 
@@ -152,36 +139,14 @@ lowest-same f g n i agree =
 -- ---- what some byte and every byte say of each byte of the access
 
 module _ (test : ℕ → Bool) where
-  any-fails-at : (n address i : ℕ) → i < n → anyByte test n address ≡ false → test (address + i) ≡ false
-  unfolding anyByte
-  any-fails-at zero address i h e = absurd (omega arith)
-  any-fails-at (suc n) address zero h e =
-      let s : address + 0 ≡ address = omega arith in rw s (or-false (test address) (anyByte test n (suc address)) e .0)
-  any-fails-at (suc n) address (suc i) h e =
-      let s : address + suc i ≡ suc address + i = omega arith in
-      rw s (any-fails-at n (suc address) i (omega arith) (or-false (test address) (anyByte test n (suc address)) e .1))
-
-  pub any-fails : (n address b : ℕ) → anyByte test n address ≡ false → address ≤ b → b < address + n → test b ≡ false
-  any-fails n address b e l h =
-      let s : b ≡ address + (b - address) = omega arith in ap test s ∙ any-fails-at n address (b - address) (omega arith) e
-
-  pub any-none : (n address : ℕ) → ((b : ℕ) → address ≤ b → b < address + n → test b ≡ false) → anyByte test n address ≡ false
-  unfolding anyByte
-  any-none zero address h = refl
-  any-none (suc n) address h =
-      rw (h address (omega arith) (omega arith)) (any-none n (suc address) (λ b l g. h b (omega arith) (omega arith)))
-
-  pub any-some : (n address b : ℕ) → address ≤ b → b < address + n → test b ≡ true → anyByte test n address ≡ true
-  any-some n address b l h e = not-false-true (anyByte test n address) (λ z. contradiction e (any-fails n address b z l h))
-
   every-passes-at : (n address i : ℕ) → i < n → everyByte test n address ≡ true → test (address + i) ≡ true
   unfolding everyByte
   every-passes-at zero address i h e = absurd (omega arith)
   every-passes-at (suc n) address zero h e =
-      let s : address + 0 ≡ address = omega arith in rw s (and-true (test address) (everyByte test n (suc address)) e .0)
+      let s : address + 0 ≡ address = omega arith in rw s (both (test address) (everyByte test n (suc address)) e .0)
   every-passes-at (suc n) address (suc i) h e =
       let s : address + suc i ≡ suc address + i = omega arith in
-      rw s (every-passes-at n (suc address) i (omega arith) (and-true (test address) (everyByte test n (suc address)) e .1))
+      rw s (every-passes-at n (suc address) i (omega arith) (both (test address) (everyByte test n (suc address)) e .1))
 
   pub every-passes : (n address b : ℕ) → everyByte test n address ≡ true → address ≤ b → b < address + n → test b ≡ true
   every-passes n address b e l h =
@@ -192,3 +157,14 @@ module _ (test : ℕ → Bool) where
   every-all zero address h = refl
   every-all (suc n) address h =
       rw (h address (omega arith) (omega arith)) (every-all n (suc address) (λ b l g. h b (omega arith) (omega arith)))
+
+module _ (test : ℕ → Bool) (n address : ℕ) where
+  pub any-fails : (b : ℕ) → anyByte test n address ≡ false → address ≤ b → b < address + n → test b ≡ false
+  any-fails b e l h =
+      not-true (test b) (every-passes (fails test) n address b (not-false _ (sym (any-every test n address) ∙ e)) l h)
+
+  pub any-none : ((b : ℕ) → address ≤ b → b < address + n → test b ≡ false) → anyByte test n address ≡ false
+  any-none h = any-every test n address ∙ ap not (every-all (fails test) n address (λ b l g. ap not (h b l g)))
+
+  pub any-some : (b : ℕ) → address ≤ b → b < address + n → test b ≡ true → anyByte test n address ≡ true
+  any-some b l h e = not-false-true (anyByte test n address) (λ z. contradiction e (any-fails b z l h))

@@ -1,4 +1,4 @@
--- 01, "Protection, byte by byte": the bytes that an entry matches.
+-- 01, "Protection, byte by byte": the bytes that an entry matches, and its lock.
 use Prim.Native.Nat.{ℕ, zero, suc, _+_, _-_, _*_, _/_, _%_, _^_, min}
 use mathlib.Core.Bool.{Bool, true, false, cond, _&&_}
 use mathlib.Core.List.{List}
@@ -9,6 +9,10 @@ use Rattle.pmp.specs.declared.Span.{Span}
 -- physical memory is the bytes below this
 abbrev pub top : ℕ
 top = 2 ^ 56
+
+-- sixteen protection entries, numbered from 0
+abbrev pub entries : ℕ
+entries = 16
 
 -- the number of ones at the low end of a word of n bits
 unfoldable pub trailingOnes : ℕ → ℕ → ℕ
@@ -34,12 +38,16 @@ spanOf (suc (suc (suc a))) addr before = napot addr (trailingOnes 64 addr)
 abbrev pub fieldA : ℕ → ℕ
 fieldA cfg = cfg / 8 % 4
 
+-- L of a configuration byte
+abbrev pub locked : ℕ → Bool
+locked cfg = eqb (cfg / 128) 1
+
 -- pmpaddr(i-1), and 0 for entry 0
 abbrev pub addressBefore : List ℕ → ℕ → ℕ
 addressBefore addrs zero = 0
 addressBefore addrs (suc i) = getD addrs i 0
 
--- the bytes of entry i, for sixteen configuration bytes and sixteen address registers
+-- the bytes of entry i, for the configuration bytes and the address registers
 abbrev pub entrySpan : List ℕ → List ℕ → ℕ → Span
 entrySpan cfgs addrs i = spanOf (fieldA (getD cfgs i 0)) (getD addrs i 0) (addressBefore addrs i)
 

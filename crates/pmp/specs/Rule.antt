@@ -12,11 +12,11 @@ use Rattle.pmp.specs.declared.Decision.{Decision}
 use Rattle.pmp.specs.declared.Decision.the-variants.{Granted, Fault, Refused}
 use Rattle.pmp.specs.Number.{faultCause}
 use Rattle.pmp.specs.Search.{lowest, anyByte, everyByte}
-use Rattle.pmp.specs.Entry.{top, matches}
+use Rattle.pmp.specs.Entry.{top, entries, locked, matches}
 
--- no entry: what an owner is where no entry matches
+-- what an owner is where no entry matches: the number after the last entry's
 abbrev pub none : ℕ
-none = 16
+none = entries
 
 -- the entry's bit for the access: X, R or W
 abbrev pub permission : Access → ℕ → ℕ
@@ -31,7 +31,7 @@ byPermission access cfg = cond (eqb (permission access cfg) 1) Granted (Fault (f
 abbrev pub entryDecides : Mode → Access → ℕ → Decision
 entryDecides User access cfg = byPermission access cfg
 entryDecides Supervisor access cfg = byPermission access cfg
-entryDecides Machine access cfg = cond (eqb (cfg / 128) 0) Granted (byPermission access cfg)
+entryDecides Machine access cfg = cond (locked cfg) (byPermission access cfg) Granted
 
 -- no matching entry: granted in M, fault in S and U
 abbrev pub noneDecides : Mode → Access → Decision
@@ -41,16 +41,16 @@ noneDecides Machine access = Granted
 
 -- what a deciding entry that matches every byte says, or none
 abbrev pub ownerDecides : List ℕ → Mode → Access → ℕ → Decision
-ownerDecides cfgs mode access owner = cond (ltb owner 16) (entryDecides mode access (getD cfgs owner 0)) (noneDecides mode access)
+ownerDecides cfgs mode access owner = cond (ltb owner entries) (entryDecides mode access (getD cfgs owner 0)) (noneDecides mode access)
 
 -- the lowest entry that matches any byte of the access, or none
 unfoldable pub lowestMatch : List ℕ → List ℕ → ℕ → ℕ → ℕ
-lowestMatch cfgs addrs address size = lowest (λ i. anyByte (matches cfgs addrs i) size address) 16 0
+lowestMatch cfgs addrs address size = lowest (λ i. anyByte (matches cfgs addrs i) size address) entries 0
 
 -- entry i decides: it must match all bytes, or fault, even in M with L=0
 abbrev pub matchDecides : List ℕ → List ℕ → Mode → Access → ℕ → ℕ → ℕ → Decision
 matchDecides cfgs addrs mode access address size i =
-    cond (ltb i 16)
+    cond (ltb i entries)
     (cond (everyByte (matches cfgs addrs i) size address) (entryDecides mode access (getD cfgs i 0)) (Fault (faultCause access)))
     (noneDecides mode access)
 
@@ -72,4 +72,4 @@ checked cfgs addrs mode access address size =
 
 -- the owner of a byte: the lowest entry that matches it, or none
 unfoldable pub ownerOf : List ℕ → List ℕ → ℕ → ℕ
-ownerOf cfgs addrs byte = lowest (λ i. matches cfgs addrs i byte) 16 0
+ownerOf cfgs addrs byte = lowest (λ i. matches cfgs addrs i byte) entries 0

@@ -5,34 +5,42 @@ use mathlib.Core.Bool.{true, not}
 use lib.Bits.{bitAnd}
 use lib.Dec.{eqb, ltb}
 use Rattle.bits.specs.Mask.{within}
+use Rattle.pmp.specs.Number.{isMode}
 use Rattle.bits.proofs.Conjunction.{both, join}
-use Rattle.registers.specs.declared.Level.{Level}
-use Rattle.registers.specs.declared.Level.the-variants.{Supervisor, Machine}
+use Rattle.bits.proofs.BitSolve.{E, lit, and, or}
+use Rattle.steps.specs.declared.Level.{Level}
+use Rattle.steps.specs.declared.Level.the-variants.{Supervisor, Machine}
 use Rattle.registers.specs.declared.LevelRegisters.{LevelRegisters}
 use Rattle.registers.specs.declared.Interrupts.{Interrupts}
 use Rattle.registers.specs.declared.Registers.{Registers}
-use Rattle.registers.specs.Hold.{isMode, aligned, keptStatus, statusHoldable, interruptsHoldable, levelHoldable, registersHoldable, resetRegisters}
+use Rattle.registers.specs.Masks.{mstatusMask, sxlUxl, medelegMask, midelegMask, mieMask, mipMask, linesMask, countersMask, causeMask}
+use Rattle.registers.specs.Status.{ppMask, mppTwo}
+use Rattle.registers.specs.Hold.{aligned, keptStatus, statusHoldable, interruptsHoldable, levelHoldable, registersHoldable, resetRegisters}
 use Rattle.registers.specs.Update.{withFlow, withMedeleg, withInterrupts, withCounters, levelOf, withLevel}
 
 -- mstatus = 0xA00000000 plus bits within 0x7A19AA; MPP not 2
 pub record StatusHeld (mstatus : ℕ) : Type 0 where
   pub kept : eqb (keptStatus mstatus) mstatus ≡ true
-  pub mpp : not (eqb (bitAnd mstatus 0x1800) 0x1000) ≡ true
+  pub mpp : not (eqb (bitAnd mstatus (ppMask Machine)) mppTwo) ≡ true
 
 pub status-held : (mstatus : ℕ) → statusHoldable mstatus ≡ true → StatusHeld mstatus
 status-held mstatus p =
-    let w = both (eqb (keptStatus mstatus) mstatus) (not (eqb (bitAnd mstatus 0x1800) 0x1000)) p in
+    let w = both (eqb (keptStatus mstatus) mstatus) (not (eqb (bitAnd mstatus (ppMask Machine)) mppTwo)) p in
     record { kept = w .0; mpp = w .1 }
 
 pub status-hold : (mstatus : ℕ) → StatusHeld mstatus → statusHoldable mstatus ≡ true
-status-hold mstatus k = join (eqb (keptStatus mstatus) mstatus) (not (eqb (bitAnd mstatus 0x1800) 0x1000)) (k .kept) (k .mpp)
+status-hold mstatus k = join (eqb (keptStatus mstatus) mstatus) (not (eqb (bitAnd mstatus (ppMask Machine)) mppTwo)) (k .kept) (k .mpp)
+
+-- what is kept of an mstatus, for equations with literal masks
+abbrev pub keptE : E → E
+keptE e = or (and e (lit mstatusMask)) (lit sxlUxl)
 
 -- the trap registers of one level
 pub record LevelHeld (l : LevelRegisters) : Type 0 where
   pub tvec : ltb (l .tvec % 4) 2 ≡ true
-  pub counteren : within 0x5 (l .counteren) ≡ true
+  pub counteren : within countersMask (l .counteren) ≡ true
   pub epc : aligned (l .epc) ≡ true
-  pub cause : within 0x800000000000003F (l .cause) ≡ true
+  pub cause : within causeMask (l .cause) ≡ true
 
 pub level-held : (l : LevelRegisters) → levelHoldable l ≡ true → LevelHeld l
 level-held l p =
@@ -49,12 +57,12 @@ pub record Held (r : Registers) : Type 0 where
   pub mode : isMode (r .mode) ≡ true
   pub pc : aligned (r .pc) ≡ true
   pub mstatus : statusHoldable (r .mstatus) ≡ true
-  pub medeleg : within 0x3FF (r .medeleg) ≡ true
-  pub mideleg : within 0x222 (r .interrupts .mideleg) ≡ true
-  pub mie : within 0xAAA (r .interrupts .mie) ≡ true
-  pub mip : within 0x222 (r .interrupts .mip) ≡ true
-  pub lines : within 0xA88 (r .interrupts .lines) ≡ true
-  pub mcountinhibit : within 0x5 (r .counters .mcountinhibit) ≡ true
+  pub medeleg : within medelegMask (r .medeleg) ≡ true
+  pub mideleg : within midelegMask (r .interrupts .mideleg) ≡ true
+  pub mie : within mieMask (r .interrupts .mie) ≡ true
+  pub mip : within mipMask (r .interrupts .mip) ≡ true
+  pub lines : within linesMask (r .interrupts .lines) ≡ true
+  pub mcountinhibit : within countersMask (r .counters .mcountinhibit) ≡ true
   pub machine : levelHoldable (r .machine) ≡ true
   pub supervisor : levelHoldable (r .supervisor) ≡ true
 
@@ -85,8 +93,8 @@ held r p =
       supervisor = g .1;
     }
 
-pub interrupts-hold : (i : Interrupts) → within 0x222 (i .mideleg) ≡ true → within 0xAAA (i .mie) ≡ true → within 0x222 (i .mip) ≡ true
-    → within 0xA88 (i .lines) ≡ true → interruptsHoldable i ≡ true
+pub interrupts-hold : (i : Interrupts) → within midelegMask (i .mideleg) ≡ true → within mieMask (i .mie) ≡ true → within mipMask (i .mip) ≡ true
+    → within linesMask (i .lines) ≡ true → interruptsHoldable i ≡ true
 interrupts-hold i a b c d = join _ _ a (join _ _ b (join _ _ c d))
 
 pub hold : (r : Registers) → Held r → registersHoldable r ≡ true
@@ -111,19 +119,19 @@ module _ (r : Registers) (p : registersHoldable r ≡ true) where
   unfolding registersHoldable
   flow-kept mode pc mstatus a b c = let k = held r p in rw (a ∙ sym (k .mode), b ∙ sym (k .pc), c ∙ sym (k .mstatus)) p
 
-  pub medeleg-kept : (medeleg : ℕ) → within 0x3FF medeleg ≡ true → registersHoldable (withMedeleg r medeleg) ≡ true
+  pub medeleg-kept : (medeleg : ℕ) → within medelegMask medeleg ≡ true → registersHoldable (withMedeleg r medeleg) ≡ true
   unfolding registersHoldable
   medeleg-kept medeleg a = rw (a ∙ sym (held r p .medeleg)) p
 
-  pub interrupts-kept : (mideleg mie mip lines : ℕ) → within 0x222 mideleg ≡ true → within 0xAAA mie ≡ true → within 0x222 mip ≡ true
-      → within 0xA88 lines ≡ true → registersHoldable (withInterrupts r mideleg mie mip lines) ≡ true
+  pub interrupts-kept : (mideleg mie mip lines : ℕ) → within midelegMask mideleg ≡ true → within mieMask mie ≡ true → within mipMask mip ≡ true
+      → within linesMask lines ≡ true → registersHoldable (withInterrupts r mideleg mie mip lines) ≡ true
   unfolding registersHoldable
   interrupts-kept mideleg mie mip lines a b c d =
       let k = held r p in
       rw (a ∙ sym (k .mideleg), b ∙ sym (k .mie), c ∙ sym (k .mip), d ∙ sym (k .lines)) p
 
   -- mcycle and minstret: any 64 bits
-  pub counters-kept : (mcountinhibit mcycle minstret : ℕ) → within 0x5 mcountinhibit ≡ true
+  pub counters-kept : (mcountinhibit mcycle minstret : ℕ) → within countersMask mcountinhibit ≡ true
       → registersHoldable (withCounters r mcountinhibit mcycle minstret) ≡ true
   unfolding registersHoldable
   counters-kept mcountinhibit mcycle minstret a = rw (a ∙ sym (held r p .mcountinhibit)) p

@@ -1,4 +1,2 @@
 -- The laws that the proofs and the crates above cite.
 pub mod Held
-pub mod AllLaws
-pub mod SameLaws

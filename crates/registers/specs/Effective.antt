@@ -1,18 +1,13 @@
 -- 01, "Protection, byte by byte": the effective mode of an access.
 use Prim.Native.Nat.{ℕ}
-use mathlib.Core.Bool.{Bool, cond}
-use lib.Dec.{eqb}
+use mathlib.Core.Bool.{cond}
 use Rattle.pmp.specs.declared.Mode.{Mode}
-use Rattle.pmp.specs.declared.Mode.the-variants.{User, Supervisor, Machine}
 use Rattle.pmp.specs.declared.Access.{Access}
 use Rattle.pmp.specs.declared.Access.the-variants.{Fetch, Load, Store}
-use Rattle.registers.specs.declared.Level.{Level}
+use Rattle.pmp.specs.Number.{modeOf}
+use Rattle.steps.specs.declared.Level.{Level}
 use Rattle.registers.specs.declared.Registers.{Registers}
 use Rattle.registers.specs.Status.{mprv, previousMode}
-
--- the mode of a number: 0 is U, 1 is S, and any other M
-abbrev pub modeOf : ℕ → Mode
-modeOf number = cond (eqb number 0) User (cond (eqb number 1) Supervisor Machine)
 
 -- a load or store uses MPP if MPRV=1, else mode
 abbrev pub dataMode : Registers → ℕ

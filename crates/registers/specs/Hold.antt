@@ -1,19 +1,16 @@
 -- 01, "What a hart can hold".
-use Prim.Native.Nat.{ℕ, _%_, _^_}
-use mathlib.Core.Bool.{Bool, true, false, not, _&&_, _||_}
-use mathlib.Core.List.{List, [], _∷_}
+use Prim.Native.Nat.{ℕ, _%_}
+use mathlib.Core.Bool.{Bool, not, _&&_}
 use lib.Bits.{bitAnd, bitOr}
 use lib.Dec.{eqb, ltb}
-use lib.ListN.{replicate}
 use Rattle.bits.specs.Mask.{within}
+use Rattle.pmp.specs.Number.{isMode}
+use Rattle.steps.specs.declared.Level.the-variants.{Machine}
 use Rattle.registers.specs.declared.LevelRegisters.{LevelRegisters}
 use Rattle.registers.specs.declared.Interrupts.{Interrupts}
 use Rattle.registers.specs.declared.Registers.{Registers}
-use Rattle.registers.specs.declared.Pmp.{Pmp}
-
--- mode 0, 1 or 3
-abbrev pub isMode : ℕ → Bool
-isMode mode = eqb mode 0 || (eqb mode 1 || eqb mode 3)
+use Rattle.registers.specs.Masks.{mstatusMask, sxlUxl, medelegMask, midelegMask, mieMask, mipMask, linesMask, countersMask, causeMask}
+use Rattle.registers.specs.Status.{ppMask, mppTwo}
 
 -- pc, mepc, sepc multiples of 4
 abbrev pub aligned : ℕ → Bool
@@ -21,45 +18,28 @@ aligned address = eqb (address % 4) 0
 
 -- the bits of mstatus that can be kept, plus SXL=UXL=2
 abbrev pub keptStatus : ℕ → ℕ
-keptStatus mstatus = bitOr (bitAnd mstatus 0x7A19AA) 0xA00000000
+keptStatus mstatus = bitOr (bitAnd mstatus mstatusMask) sxlUxl
 
 -- mstatus = 0xA00000000 plus bits within 0x7A19AA, MPP not 2
 abbrev pub statusHoldable : ℕ → Bool
-statusHoldable mstatus = eqb (keptStatus mstatus) mstatus && not (eqb (bitAnd mstatus 0x1800) 0x1000)
+statusHoldable mstatus = eqb (keptStatus mstatus) mstatus && not (eqb (bitAnd mstatus (ppMask Machine)) mppTwo)
 
 -- mideleg within 0x222; mie within 0xAAA; mip software bits within 0x222; lines within 0xA88
 abbrev pub interruptsHoldable : Interrupts → Bool
 interruptsHoldable i =
-    within 0x222 (i .mideleg) && (within 0xAAA (i .mie) && (within 0x222 (i .mip) && within 0xA88 (i .lines)))
+    within midelegMask (i .mideleg) && (within mieMask (i .mie) && (within mipMask (i .mip) && within linesMask (i .lines)))
 
 -- tvec with MODE 0 or 1; counteren within 0x5; epc a multiple of 4; cause within 0x800000000000003F
 abbrev pub levelHoldable : LevelRegisters → Bool
 levelHoldable l =
-    ltb (l .tvec % 4) 2 && (within 0x5 (l .counteren) && (aligned (l .epc) && within 0x800000000000003F (l .cause)))
+    ltb (l .tvec % 4) 2 && (within countersMask (l .counteren) && (aligned (l .epc) && within causeMask (l .cause)))
 
 -- all registers but those of protection
 unfoldable pub registersHoldable : Registers → Bool
 registersHoldable r =
-    isMode (r .mode) && (aligned (r .pc) && (statusHoldable (r .mstatus) && (within 0x3FF (r .medeleg)
-    && (interruptsHoldable (r .interrupts) && (within 0x5 (r .counters .mcountinhibit)
+    isMode (r .mode) && (aligned (r .pc) && (statusHoldable (r .mstatus) && (within medelegMask (r .medeleg)
+    && (interruptsHoldable (r .interrupts) && (within countersMask (r .counters .mcountinhibit)
     && (levelHoldable (r .machine) && levelHoldable (r .supervisor)))))))
-
--- each PMP byte with bits 5 and 6 zero and never R=0, W=1
-abbrev pub configHoldable : ℕ → Bool
-configHoldable cfg = eqb (bitAnd cfg 0x60) 0 && not (eqb (bitAnd cfg 3) 2)
-
--- each pmpaddr below 2^54
-abbrev pub addressHoldable : ℕ → Bool
-addressHoldable addr = ltb addr (2 ^ 54)
-
--- every element passes the test
-unfoldable pub all : (ℕ → Bool) → List ℕ → Bool
-all test [] = true
-all test (x ∷ xs) = test x && all test xs
-
--- the protection registers
-unfoldable pub pmpHoldable : Pmp → Bool
-pmpHoldable p = all configHoldable (p .cfgs) && all addressHoldable (p .addrs)
 
 abbrev zeroLevel : LevelRegisters
 zeroLevel = record { tvec = 0; counteren = 0; scratch = 0; epc = 0; cause = 0; tval = 0 }
@@ -70,13 +50,10 @@ resetRegisters =
     record {
       mode = 3;
       pc = 0x1000;
-      mstatus = 0xA00000000;
+      mstatus = sxlUxl;
       medeleg = 0;
       interrupts = record { mideleg = 0; mie = 0; mip = 0; lines = 0 };
       counters = record { mcountinhibit = 0; mcycle = 0; minstret = 0 };
       machine = zeroLevel;
       supervisor = zeroLevel;
     }
-
-abbrev pub resetPmp : Pmp
-resetPmp = record { cfgs = replicate 16 0; addrs = replicate 16 0 }

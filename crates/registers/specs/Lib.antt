@@ -1,6 +1,6 @@
 -- The definitions that the contracts cite.
+pub mod Masks
 pub mod Update
 pub mod Status
 pub mod Hold
-pub mod Same
 pub mod Effective

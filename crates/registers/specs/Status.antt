@@ -1,15 +1,21 @@
 -- 01, "What a hart can hold" and "Traps, returns, time": the fields of mstatus, by level where both have one.
-use Prim.Native.Nat.{ℕ, _/_}
+use Prim.Native.Nat.{ℕ, _*_, _/_}
 use mathlib.Core.Bool.{Bool}
-use lib.Bits.{bitAnd}
+use lib.Bits.{bitAnd, bitOr}
 use Rattle.bits.specs.Mask.{testBit}
-use Rattle.registers.specs.declared.Level.{Level}
-use Rattle.registers.specs.declared.Level.the-variants.{Supervisor, Machine}
+use Rattle.steps.specs.declared.Level.{Level}
+use Rattle.steps.specs.declared.Level.the-variants.{Supervisor, Machine}
+use Rattle.registers.specs.declared.Registers.{Registers}
 
 -- MIE and SIE
 abbrev pub ieMask : Level → ℕ
 ieMask Supervisor = 0x2
 ieMask Machine = 0x8
+
+-- MIE or SIE is 1
+abbrev pub enabled : Level → ℕ → Bool
+enabled Supervisor mstatus = testBit mstatus 1
+enabled Machine mstatus = testBit mstatus 3
 
 -- MPIE and SPIE, four places above
 abbrev pub pieMask : Level → ℕ
@@ -35,6 +41,10 @@ ppModes Machine = 4
 abbrev pub previousMode : Level → ℕ → ℕ
 previousMode level mstatus = bitAnd mstatus (ppMask level) / ppUnit level
 
+-- MPP=2, which no hart can hold
+abbrev pub mppTwo : ℕ
+mppTwo = 2 * ppUnit Machine
+
 abbrev pub mprvMask : ℕ
 mprvMask = 0x20000
 
@@ -49,3 +59,7 @@ tw mstatus = testBit mstatus 21
 
 abbrev pub tsr : ℕ → Bool
 tsr mstatus = testBit mstatus 22
+
+-- 01, "Registers and access to them": mip reads software bits or lines
+abbrev pub pending : Registers → ℕ
+pending r = bitOr (r .interrupts .mip) (r .interrupts .lines)

@@ -1,16 +1,9 @@
 -- The registers of 01, "What a hart can hold", with one group replaced.
 use Prim.Native.Nat.{ℕ}
-use Rattle.registers.specs.declared.Level.{Level}
-use Rattle.registers.specs.declared.Level.the-variants.{Supervisor, Machine}
+use Rattle.steps.specs.declared.Level.{Level}
+use Rattle.steps.specs.declared.Level.the-variants.{Supervisor, Machine}
 use Rattle.registers.specs.declared.LevelRegisters.{LevelRegisters}
-use Rattle.registers.specs.declared.Interrupts.{Interrupts}
-use Rattle.registers.specs.declared.Counters.{Counters}
 use Rattle.registers.specs.declared.Registers.{Registers}
-
--- the number of a level's mode: S=1, M=3
-abbrev pub levelNumber : Level → ℕ
-levelNumber Supervisor = 1
-levelNumber Machine = 3
 
 -- mode, pc and mstatus, which traps and returns change together
 abbrev pub withFlow : Registers → ℕ → ℕ → ℕ → Registers

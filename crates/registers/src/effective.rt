@@ -1,27 +1,20 @@
 // The effective mode of an access.
 use crate::Registers;
+use crate::fields::MPRV;
+use crate::status::previous_mode;
 use pmp::Access;
 use pmp::Mode;
+use pmp::mode_of;
+use steps::Level;
 ghost use mathlib.Core.Path.{_≡_};
-ghost use Rattle.registers.specs.Effective.{modeOf, dataMode, effectiveMode};
-
-// The mode of a number: 0 is U, 1 is S, and any other M.
-pub fn mode_of(number: u64) -> Mode
-    ensures { λ r. ⌜ r ≡ modeOf number ⌝ }
-{
-    match number {
-        0 => Mode::User,
-        1 => Mode::Supervisor,
-        _ => Mode::Machine,
-    }
-}
+ghost use Rattle.registers.specs.Effective.{dataMode, effectiveMode};
 
 // The number of the mode that a load or a store uses.
 fn data_mode(r: Registers) -> u64
     ensures { λ mode. ⌜ mode ≡ dataMode r ⌝ }
 {
-    if (r.mstatus >> 17) % 2 == 1 {
-        (r.mstatus & 0x1800) / 0x800
+    if r.mstatus / MPRV % 2 == 1 {
+        previous_mode(Level::Machine, r.mstatus)
     } else {
         r.mode
     }

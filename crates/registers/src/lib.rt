@@ -1,23 +1,20 @@
-// The registers of a hart, each as a raw number: a state that no hart can hold can be given, and is refused.
+// The registers of a hart but those of protection, each as a raw number: a value that no hart can hold can be given, and is refused.
 mod effective;
+pub mod fields;
 mod hold;
-mod same;
+mod level;
+pub mod masks;
+mod status;
 
 pub use effective::effective_mode;
-pub use effective::mode_of;
-pub use hold::pmp_can_hold;
 pub use hold::registers_can_hold;
-pub use hold::reset_pmp;
 pub use hold::reset_registers;
-pub use same::same_pmp;
+pub use level::level_registers;
+pub use level::with_level_registers;
+pub use status::pending_interrupts;
+pub use status::previous_mode;
 
-// A level that traps are taken to. Machine and supervisor level have the same set of trap registers.
-pub enum Level {
-    Supervisor,
-    Machine,
-}
-
-// The registers that both levels have: mtvec and stvec, mcounteren and scounteren, and so on.
+// The trap registers, which both levels have: mtvec and stvec, mcounteren and scounteren, and so on.
 pub struct LevelRegisters {
     pub tvec: u64,
     pub counteren: u64,
@@ -50,10 +47,4 @@ pub struct Registers {
     pub counters: Counters,
     pub machine: LevelRegisters,
     pub supervisor: LevelRegisters,
-}
-
-// The protection registers: a configuration byte and an address register for each entry.
-pub struct Pmp {
-    pub cfgs: [u8; 16],
-    pub addrs: [u64; 16],
 }

@@ -1,8 +1,8 @@
 // Replays a trace from a descriptor to standard output, in constant memory. What is read and written no contract can say: the work is done by `trace`.
 use hart::Hart;
 use libc::STDOUT_FILENO;
+use steps::Answer;
 use trace::Replay;
-use trap::Answer;
 ghost use Prim.Native.Nat.{_≤_, _<_};
 ghost use lib.ListN.{length};
 

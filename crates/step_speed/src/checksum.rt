@@ -1,20 +1,12 @@
 // A checksum of answers, harts and maps.
 use hart::Hart;
 use map::Map;
-use registers::Level;
-use trap::Answer;
-use trap::Trap;
+use steps::Answer;
+use steps::Trap;
 
 // Each word counts by its value and by its place.
 fn summed(sum: u64, word: u64) -> u64 {
     std::num::wrapping_add_u64((sum << 1) | (sum >> 63), word)
-}
-
-fn level_number(level: Level) -> u64 {
-    match level {
-        Level::Supervisor => 1,
-        Level::Machine => 3,
-    }
 }
 
 fn cause_number(trap: Trap) -> u64 {
@@ -36,7 +28,7 @@ fn answer_number(answer: Answer) -> u64 {
         Answer::DoneFlag(flag) => std::num::wrapping_add_u64(2, flag_number(flag)),
         Answer::Granted => 3,
         Answer::Trapped(trap, level) => {
-            let level = std::num::wrapping_add_u64(4, level_number(level));
+            let level = std::num::wrapping_add_u64(4, steps::level_number(level));
             std::num::wrapping_add_u64(level, cause_number(trap))
         }
         Answer::Refused(number) => std::num::wrapping_add_u64(5, number),
@@ -49,9 +41,8 @@ pub(crate) fn answered(sum: u64, answer: Answer) -> u64 {
 
 // The words of the hart, and the ranges of the map with their owners.
 pub(crate) fn left_by(start: u64, hart: Hart, map: Map) -> u64 {
-    let registers = hart.registers;
-    let pmp = hart.pmp;
-    let words = words::words_of(registers, pmp);
+    let state = hart.state;
+    let words = state::to_words(state);
     let mut sum = start;
     let mut i: usize = 0;
     while i < 41 {
@@ -59,12 +50,11 @@ pub(crate) fn left_by(start: u64, hart: Hart, map: Map) -> u64 {
         i += 1;
     }
     sum = summed(sum, map.count);
+    let n = map::count_read(map.count);
     let mut k: usize = 0;
-    while k < 33 {
-        if (k as u64) < map.count {
-            let range = map.ranges[k];
-            sum = summed(summed(summed(sum, range.first), range.last), range.owner);
-        }
+    while k < n {
+        let range = map.ranges[k];
+        sum = summed(summed(summed(sum, range.first), range.last), range.owner);
         k += 1;
     }
     sum

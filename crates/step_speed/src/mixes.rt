@@ -1,7 +1,8 @@
 // The mixes: sixteen steps each, by their place, and the steps that come before every mix.
-use csr::Operation;
-use hart::Step;
 use pmp::Access;
+use steps::Event;
+use steps::Operation;
+use steps::Step;
 
 fn write(number: u64, operand: u64) -> Step {
     Step::Csr(Operation::Write, number, operand)
@@ -68,24 +69,24 @@ fn csr_step(place: u64) -> Step {
 }
 
 // From mode M with MPP=U and back to it.
-fn trap_step(place: u64) -> Step {
+fn trap_event(place: u64) -> Event {
     match place {
-        0 => Step::Mret,
-        1 => Step::Ecall,
-        2 => Step::Sret,
-        3 => Step::Ebreak,
-        4 => Step::Mret,
-        5 => Step::Raise(5, 0x1234),
-        6 => Step::Lines(0x80),
-        7 => Step::Mret,
-        8 => Step::TakeInterrupt,
-        9 => Step::Lines(0),
-        10 => Step::Mret,
-        11 => Step::TakeInterrupt,
-        12 => Step::Mret,
-        13 => Step::Wfi,
-        14 => Step::Advance(0x1002),
-        _ => Step::Mret,
+        0 => Event::Mret,
+        1 => Event::Ecall,
+        2 => Event::Sret,
+        3 => Event::Ebreak,
+        4 => Event::Mret,
+        5 => Event::Raise(5, 0x1234),
+        6 => Event::Lines(0x80),
+        7 => Event::Mret,
+        8 => Event::TakeInterrupt,
+        9 => Event::Lines(0),
+        10 => Event::Mret,
+        11 => Event::TakeInterrupt,
+        12 => Event::Mret,
+        13 => Event::Wfi,
+        14 => Event::Advance(0x1002),
+        _ => Event::Mret,
     }
 }
 
@@ -137,7 +138,7 @@ fn protection_step(place: u64) -> Step {
 pub(crate) fn step_of(mix: u64, place: u64) -> Step {
     match mix {
         1 => csr_step(place),
-        2 => trap_step(place),
+        2 => Step::Event(trap_event(place)),
         3 => access_step(place),
         _ => protection_step(place),
     }

@@ -5,7 +5,7 @@ use mathlib.Core.Bool.{Bool, true, false, cond}
 use mathlib.Core.List.{List, [], _∷_, _++_}
 use lib.Dec.{leb}
 use lib.ListN.{length, drop, replicate}
-use Rattle.lines.specs.Lines.{linesOf, wordsOf, isText}
+use Rattle.lines.specs.Lines.{linesOf, wordsIn, isText}
 use Rattle.text.specs.declared.Reading.{Reading}
 
 -- in this order
@@ -20,21 +20,25 @@ keys =
 unfoldable pub textOf : List ℕ → List ℕ
 textOf ws = linesOf keys 0 ws
 
+-- its bytes
+abbrev pub textLength : ℕ
+textLength = 1027
+
 -- the buffer has room for the text
 abbrev pub holdsText : List ℕ → Bool
-holdsText b = leb 1027 (length b)
+holdsText b = leb textLength (length b)
 
 -- a buffer after writing: bytes past 1,027 are unchanged, and so is a shorter buffer
 unfoldable pub writtenTo : List ℕ → List ℕ → List ℕ
-writtenTo ws b = cond (holdsText b) (textOf ws ++ drop 1027 b) b
+writtenTo ws b = cond (holdsText b) (textOf ws ++ drop textLength b) b
 
 -- what is read where the text is in the form
-abbrev pub given : List ℕ → Reading
-given ws = record { ok = true; words = ws }
+abbrev pub readAs : List ℕ → Reading
+readAs ws = record { ok = true; words = ws }
 
 -- what is read where it is not, or is longer or shorter than it
-abbrev pub refused : Reading
-refused = record { ok = false; words = replicate 41 0 }
+abbrev pub noText : Reading
+noText = record { ok = false; words = replicate 41 0 }
 
 unfoldable pub readText : List ℕ → Reading
-readText t = cond (isText keys t) (given (wordsOf keys t)) refused
+readText t = cond (isText keys t) (readAs (wordsIn keys t)) noText

@@ -1,53 +1,64 @@
--- The loop over the records of a batch.
+-- The loop over the records of a batch. Assumes nothing.
 use Prim.Native.Nat.{ℕ, zero, suc, _+_, _-_, _*_, _%_, _^_, _≤_, _<_}
 use mathlib.Core.Path.{_≡_, refl, sym, ap, _∙_}
-use mathlib.Core.Bool.{Bool, true, false, cond, not, _&&_, _||_}
-use mathlib.Core.List.{List, [], _++_, append-nil}
+use mathlib.Core.Bool.{Bool, true, false, cond, _||_}
+use mathlib.Core.List.{List, [], _∷_, _++_}
 use native.Mathlib.Omega.{arith}
 use native.Mathlib.Nat.{zero-add}
 use lib.ListN.{length, take, drop, length-append}
 use lib.Seq.{sets, length-sets, sets-eq, drop-drop}
+use Rattle.bits.specs.Fold.{fold, outputs, anyStep}
+use Rattle.steps.specs.declared.Step.{Step}
+use Rattle.steps.specs.declared.Decoded.{Decoded}
+use Rattle.steps.specs.declared.Decoded.the-variants.{Formed, Nothing}
+use Rattle.state.specs.declared.State.{State}
+use Rattle.state.specs.Hold.{canHold}
+use Rattle.state.specs.Words.{stateOf}
 use Rattle.map.specs.declared.Map.{Map}
-use Rattle.hart.specs.declared.Hart.{Hart}
-use Rattle.hart.specs.declared.Step.{Step}
+use Rattle.engine.specs.declared.Taken.{Taken}
+use Rattle.engine.specs.Effects.{ruledBy, stepRule}
+use Rattle.engine.specs.Taking.{stepTaken, remaps}
+use Rattle.engine.specs.Runs.{stateAfter}
+use Rattle.engine.proofs.TakingLaws.{still-held}
 use Rattle.hart.specs.declared.Stepped.{Stepped}
-use Rattle.hart.specs.declared.Decoded.{Decoded}
-use Rattle.hart.specs.declared.Decoded.the-variants.{Formed, Nothing}
-use Rattle.hart.specs.declared.Effect.{Effect}
-use Rattle.hart.specs.Effects.{canHold, effect, isReset, mayRemap, judged}
-use Rattle.hart.specs.Steps.{withMap, handedBack, resetDone, stepped}
-use Rattle.hart.proofs.StepLaws.{stays-arm, step-taken}
-use Rattle.hart.proofs.Holds.{reset-holds, judged-holds}
-use Rattle.bits.proofs.Conjunction.{both}
+use Rattle.hart.specs.Steps.{mapFor, hartWith, handedBack, stepped}
+use Rattle.hart.proofs.StepLaws.{step-parts}
+use Rattle.hart.proofs.LeftLaws.{pmp-stays}
 use Rattle.trace.specs.declared.Replay.{Replay}
 use Rattle.trace.specs.declared.Written.{Written}
 use Rattle.trace.specs.Records.{readStep}
 use Rattle.trace.specs.Buffers.{Put, atFront}
 use Rattle.trace.specs.Answers.{answerLine, brokenLine}
-use Rattle.trace.specs.Batches.{stoppedAt, afterDecoded, decodedLine, afterRecord, recordLine, afterRecords, recordLines, recordsIn, batchLines, batched}
+use Rattle.trace.specs.Batches.{afterStep, afterDecoded, decodedLine, afterRecord, recordLine, recordsOf, afterRecords, recordLines}
+use Rattle.trace.specs.Batches.{recordsIn, batchLines, batched, carried}
 use Rattle.trace.proofs.Writing.{sets-append, answer-length, broken-length}
 
--- ---- a replay that has stopped
+-- ---- records that do nothing more
 
-stopped-record : (r : Replay) (t : List ℕ) → r .stopped ≡ true → (afterRecord r t ≡ r) × (recordLine r t ≡ [])
-unfolding afterRecord recordLine
-stopped-record r t h = (
-  ap (λ (b : Bool). cond b r (afterDecoded r (readStep t))) h,
-  ap (λ (b : Bool). cond b [] (decodedLine r (readStep t))) h,
-)
+-- the records leave a replay as it is, and write no line
+abbrev pub Still : Replay → List (List ℕ) → Type 0
+Still r ts = (fold afterRecord r ts ≡ r) × (outputs afterRecord recordLine r ts ≡ [])
 
-pub stopped-after : (n : ℕ) (r : Replay) (t : List ℕ) → r .stopped ≡ true → afterRecords n r t ≡ r
-unfolding afterRecords
-stopped-after zero r t h = refl
-stopped-after (suc n) r t h =
-    ap (λ (x : Replay). afterRecords n x (drop 60 t)) (stopped-record r (take 60 t) h .0) ∙ stopped-after n r (drop 60 t) h
+module _ (r : Replay) (h : r .stopped ≡ true) where
+  stopped-record : (t : List ℕ) → (afterRecord r t ≡ r) × (recordLine r t ≡ [])
+  unfolding afterRecord recordLine
+  stopped-record t = (
+    ap (λ (b : Bool). cond b r (afterDecoded r (readStep t))) h,
+    ap (λ (b : Bool). cond b [] (decodedLine r (readStep t))) h,
+  )
 
-pub stopped-lines : (n : ℕ) (r : Replay) (t : List ℕ) → r .stopped ≡ true → recordLines n r t ≡ []
-unfolding recordLines
-stopped-lines zero r t h = refl
-stopped-lines (suc n) r t h =
-    let e = stopped-record r (take 60 t) h in
-    (λ j. e .1 j ++ recordLines n (e .0 j) (drop 60 t)) ∙ stopped-lines n r (drop 60 t) h
+  pub stopped-still : (ts : List (List ℕ)) → Still r ts
+  unfolding fold outputs
+  stopped-still [] = (refl, refl)
+  stopped-still (t ∷ ts) =
+      let e = stopped-record t in
+      let s = stopped-still ts in
+      ((λ j. fold afterRecord (e .0 j) ts) ∙ s .0, (λ j. e .1 j ++ outputs afterRecord recordLine (e .0 j) ts) ∙ s .1)
+
+pub none-still : (n : ℕ) (r : Replay) (t : List ℕ) → n ≤ 0 → Still r (recordsOf n t)
+unfolding recordsOf fold outputs
+none-still zero r t h = (refl, refl)
+none-still (suc n) r t h = absurd (omega arith)
 
 -- ---- no line is longer than 64 bytes
 
@@ -61,7 +72,7 @@ line-length r t = go (r .stopped) (readStep t)
     go false Nothing = broken-length (r .number)
 
 lines-length : (n : ℕ) (r : Replay) (t : List ℕ) → length (recordLines n r t) ≤ 64 * n
-unfolding recordLines
+unfolding recordsOf outputs
 lines-length zero r t = omega arith
 lines-length (suc n) r t =
     omega (
@@ -71,14 +82,53 @@ lines-length (suc n) r t =
       lines-length n (afterRecord r (take 60 t)) (drop 60 t),
     )
 
+-- ---- a step on the words
+
+pub begun : (r : Replay) (w : List ℕ) → r .stopped ≡ false → stateOf w ≡ r .hart .state
+    → carried (stateOf w) false (r .map) (r .number) false ≡ r
+begun r w h e = λ j. record { hart = hartWith (e j); map = r .map; number = r .number; stopped = sym h j }
+
+module _ (s : State) (step : Step) {x : State} {held : Bool} {t : Taken} (h : held ≡ canHold s) (e : t ≡ stepTaken held s step)
+    (f : x ≡ ruledBy held s step .state) where
+  pub held-next : t .held ≡ canHold x
+  unfolding stepTaken
+  held-next = ap (λ (y : Taken). y .held) e ∙ still-held held s step h ∙ ap canHold (sym f)
+
+  ruled : ruledBy held s step ≡ stepRule s step
+  unfolding stepRule
+  ruled = ap (λ (b : Bool). ruledBy b s step) h
+
+  -- a map compiled before is that of the registers, where the step leaves them
+  map-next : (map : Map) (r b : Bool) → remaps s step ≡ b
+      → cond b (mapFor (stateAfter s step .pmp)) (cond r (mapFor (s .pmp)) map) ≡ cond (r || b) (mapFor (stateAfter s step .pmp)) map
+  unfolding fold anyStep
+  map-next map true true q = refl
+  map-next map true false q = ap mapFor (pmp-stays s (step ∷ []) (ap (λ (b : Bool). b || false) q))
+  map-next map false true q = refl
+  map-next map false false q = refl
+
+  step-carried : (remap : Bool) (map : Map) → stepped (hartWith s) (cond remap (mapFor (s .pmp)) map) step
+      ≡ handedBack (hartWith x) (cond (remap || t .remap) (mapFor (x .pmp)) map) (t .answer)
+  unfolding stepTaken
+  step-carried remap map =
+      let q : stateAfter s step ≡ x = sym (f ∙ ap (λ r. r .state) ruled) in
+      let a : stepRule s step .answer ≡ t .answer = sym (ap (λ (y : Taken). y .answer) e ∙ ap (λ r. r .answer) ruled) in
+      let m : remaps s step ≡ t .remap = sym (ap (λ (y : Taken). y .remap) e ∙ rw ruled) in
+      let n = map-next map remap (remaps s step) refl ∙ (λ j. cond (remap || m j) (mapFor (q j .pmp)) map) in
+      step-parts (hartWith s) (cond remap (mapFor (s .pmp)) map) step ∙ (λ j. handedBack (hartWith (q j)) (n j) (a j))
+
+  formed : (remap : Bool) (map : Map) (number : ℕ) (text : List ℕ) {k : ℕ} → readStep text ≡ Formed step → k ≡ (number + 1) % 2 ^ 64 →
+      let here = carried s remap map number false in
+      (afterRecord here text ≡ carried x (remap || t .remap) map k false) × (recordLine here text ≡ answerLine (t .answer))
+  unfolding afterRecord recordLine
+  formed remap map number text r i =
+      let here = carried s remap map number false in
+      let c = step-carried remap map in (
+        ap (afterDecoded here) r ∙ ap (λ (y : Stepped). afterStep y number) c ∙ (λ j. carried x (remap || t .remap) map (sym i j) false),
+        ap (decodedLine here) r ∙ ap (λ (y : Stepped). answerLine (y .answer)) c,
+      )
+
 -- ---- the loop
-
--- a replay that has not stopped
-abbrev pub going : Hart → Map → ℕ → Replay
-going h map number = record { hart = h; map = map; number = number; stopped = false }
-
-pub started : (r : Replay) → r .stopped ≡ false → r ≡ going (r .hart) (r .map) (r .number)
-started r h = λ j. record { hart = r .hart; map = r .map; number = r .number; stopped = h j }
 
 -- what is left of the input does with the replay at hand what the whole does with the first
 pub record Turn (input before : List ℕ) (total : ℕ) (start : Replay) (out : List ℕ) (left : ℕ) (here : Replay) (filled at : ℕ) : Type 0 where
@@ -99,130 +149,77 @@ turn-start input out n r e = record {
   bytes = sym (zero-add (length (recordLines n r input)));
 }
 
-module _ (input before : List ℕ) (total : ℕ) (start : Replay) (out : List ℕ) (left : ℕ) (h : Hart) (map : Map) (number filled at : ℕ)
-    (turn : Turn input before total start out left (going h map number) filled at) where
-  here-read : (d : Decoded) → d ≡ readStep (take ((at + 60) - at) (drop at input)) → readStep (take 60 (drop at input)) ≡ d
-  here-read d e =
-      let k : (at + 60) - at ≡ 60 = omega arith in
-      sym (e ∙ ap (λ (n : ℕ). readStep (take n (drop at input))) k)
+-- the record at a place
+abbrev recordAt : List ℕ → ℕ → List ℕ
+recordAt input at = take 60 (drop at input)
 
-  pub turn-next : {step : Step} (d : Decoded) (s : Stepped) (after : List ℕ) (next k : ℕ) → 0 < left
-      → d ≡ readStep (take ((at + 60) - at) (drop at input)) → d ≡ Formed step → s ≡ stepped h map step
-      → Put out filled (answerLine (s .answer)) after next → k ≡ (number + 1) % 2 ^ 64
-      → Turn input before total start after (left - 1) (going (s .hart) (s .map) k) next (at + 60)
-  unfolding afterRecords recordLines afterRecord recordLine
-  turn-next {step} d s after next k more e f g put ek =
-      let here = going h map number in
-      let there = going (s .hart) (s .map) k in
-      let line = answerLine (s .answer) in
+pub read-here : (input : List ℕ) (at : ℕ) {d : Decoded} → d ≡ readStep (take ((at + 60) - at) (drop at input)) → readStep (recordAt input at) ≡ d
+read-here input at e =
+    let k : (at + 60) - at ≡ 60 = omega arith in
+    sym (e ∙ ap (λ (n : ℕ). readStep (take n (drop at input))) k)
+
+module _ {input before : List ℕ} {total : ℕ} {start : Replay} {out : List ℕ} {left : ℕ} {here : Replay} {filled at : ℕ}
+    (turn : Turn input before total start out left here filled at) where
+  -- one record more, from what it leaves and its line
+  turn-next : (there : Replay) (line after : List ℕ) (next : ℕ) → 0 < left
+      → (afterRecord here (recordAt input at) ≡ there) × (recordLine here (recordAt input at) ≡ line) → length line ≤ 64
+      → Put out filled line after next → Turn input before total start after (left - 1) there next (at + 60)
+  unfolding recordsOf fold outputs
+  turn-next there line after next more e short put =
       let rest = recordLines (left - 1) there (drop (at + 60) input) in
       let n : left ≡ suc (left - 1) = omega arith in
-      let r : readStep (take 60 (drop at input)) ≡ Formed step = here-read d e ∙ f in
-      let x : afterRecord here (take 60 (drop at input)) ≡ there =
-      ap (afterDecoded here) r ∙ (λ j. record { hart = sym g j .hart; map = sym g j .map; number = sym ek j; stopped = false }) in
-      let y : recordLine here (take 60 (drop at input)) ≡ line = ap (decodedLine here) r ∙ (λ j. answerLine (sym g j .answer)) in
-      let t : drop 60 (drop at input) ≡ drop (at + 60) input = drop-drop 60 at input in
+      let r : recordsOf left (drop at input) ≡ recordAt input at ∷ recordsOf (left - 1) (drop (at + 60) input) =
+      ap (λ (m : ℕ). recordsOf m (drop at input)) n ∙ ap (λ (t : List ℕ). recordAt input at ∷ recordsOf (left - 1) t) (drop-drop 60 at input) in
       let z : recordLines left here (drop at input) ≡ line ++ rest =
-      ap (λ (m : ℕ). recordLines m here (drop at input)) n ∙ (λ j. y j ++ recordLines (left - 1) (x j) (t j)) in
+      ap (outputs afterRecord recordLine here) r ∙ (λ j. e .1 j ++ recordLines (left - 1) (e .0 j) (drop (at + 60) input)) in
       let l : length after ≡ length out = ap length (put .bytes) ∙ length-sets out filled line in record {
         within = omega (arith, turn .within);
-        room = omega (arith, turn .room, put .behind, answer-length (s .answer));
+        room = omega (arith, turn .room, put .behind);
         same = l ∙ turn .same;
-        replay = turn .replay ∙ ap (λ (m : ℕ). afterRecords m here (drop at input)) n ∙ (λ j. afterRecords (left - 1) (x j) (t j));
+        replay = turn .replay ∙ ap (fold afterRecord here) r ∙ (λ j. afterRecords (left - 1) (e .0 j) (drop (at + 60) input));
         lines = turn .lines ∙ ap (sets out filled) z ∙ sets-append line out filled rest ∙ (λ j. sets (sym (put .bytes) j) (sym (put .behind) j) rest);
         bytes = omega (arith, turn .bytes, ap length z, length-append line rest, put .behind);
       }
 
-  pub turn-stop : (d : Decoded) (after : List ℕ) (next : ℕ) → 0 < left
-      → d ≡ readStep (take ((at + 60) - at) (drop at input)) → d ≡ Nothing → Put out filled (brokenLine number) after next
-      → (afterRecords total start input ≡ stoppedAt (going h map number)) × (after ≡ sets before 0 (recordLines total start input))
-      × (next ≡ length (recordLines total start input))
-  unfolding afterRecords recordLines afterRecord recordLine
-  turn-stop d after next more e f put =
-      let here = going h map number in
-      let there = stoppedAt here in
-      let rest = drop 60 (drop at input) in
-      let n : left ≡ suc (left - 1) = omega arith in
-      let r : readStep (take 60 (drop at input)) ≡ Nothing = here-read d e ∙ f in
-      let x : afterRecord here (take 60 (drop at input)) ≡ there = ap (afterDecoded here) r in
-      let y : recordLine here (take 60 (drop at input)) ≡ brokenLine number = ap (decodedLine here) r in
-      let z : recordLines left here (drop at input) ≡ brokenLine number =
-      ap (λ (m : ℕ). recordLines m here (drop at input)) n ∙ (λ j. y j ++ recordLines (left - 1) (x j) rest)
-      ∙ ap (λ (l : List ℕ). brokenLine number ++ l) (stopped-lines (left - 1) there rest refl) ∙ append-nil (brokenLine number) in (
-        turn .replay ∙ ap (λ (m : ℕ). afterRecords m here (drop at input)) n ∙ (λ j. afterRecords (left - 1) (x j) rest)
-            ∙ stopped-after (left - 1) there rest refl,
-        put .bytes ∙ sym (turn .lines ∙ ap (sets out filled) z),
-        omega (arith, turn .bytes, ap length z, put .behind),
-      )
-
-  pub turn-end : left ≤ 0
-      → (afterRecords total start input ≡ going h map number) × (out ≡ sets before 0 (recordLines total start input))
-      × (filled ≡ length (recordLines total start input))
-  unfolding afterRecords recordLines
-  turn-end none =
-      let z : left ≡ 0 = omega arith in (
-        turn .replay ∙ rw z,
-        sym (turn .lines ∙ rw z),
-        sym (turn .bytes ∙ rw z (omega arith)),
-      )
-
--- ---- a step that leaves the map
-
-or-true : (a : Bool) → (a || true) ≡ true
-or-true true = refl
-or-true false = refl
-
-module _ (h : Hart) (map : Map) (s : Step) where
-  -- of a state that a hart can hold
-  pub effect-stepped : (e : Effect) (held remaps : Bool) → e ≡ effect h s → remaps ≡ mayRemap s → (held && not remaps) ≡ true
-      → (held ≡ true → canHold h ≡ true) → handedBack map e ≡ stepped h map s
-  effect-stepped e held remaps f p t k =
-      let b = both held (not remaps) t in
-      stays-arm h map s e f remaps p (b .1) ∙ step-taken h map s (isReset s) true refl (sym (k (b .0))) (or-true (isReset s))
-
-  pub step-holds : canHold h ≡ true → canHold (stepped h map s .hart) ≡ true
-  unfolding stepped
-  step-holds k = go (isReset s)
-    where
-      go : (b : Bool) → canHold (cond b resetDone (withMap h map (judged h s)) .hart) ≡ true
-      go true = reset-holds
-      go false = judged-holds h k s
-
--- what a batch answers and leaves in its buffer
-module _ (input before : List ℕ) where
-  returned : (after : List ℕ) (start here : Replay) (total filled : ℕ) → total ≡ recordsIn input before
-      → (afterRecords total start input ≡ here) × (after ≡ sets before 0 (recordLines total start input)) × (filled ≡ length (recordLines total start input))
-      → (_≡_ {A = Written} (record { replay = here; filled = filled }) (batched input before start))
-      × ((after ≡ atFront (batchLines input before start) before) × (filled ≤ length before))
+  -- what a batch answers and leaves in its buffer, where nothing more is done
+  pub batch-returned : (first there : Replay) → start ≡ first → there ≡ here → total ≡ recordsIn input before → Still here (recordsOf left (drop at input))
+      → (_≡_ {A = Written} (record { replay = there; filled = filled }) (batched input before first))
+      × ((out ≡ atFront (batchLines input before first) before) × (filled ≤ length before))
   unfolding batched batchLines
-  returned after start here total filled e f =
+  batch-returned first there s t e still =
       let n = recordsIn input before in
-      let lines = recordLines n start input in
-      let r : here ≡ afterRecords n start input = sym (f .0) ∙ ap (λ (m : ℕ). afterRecords m start input) e in
-      let b : filled ≡ length lines = f .2 ∙ ap (λ (m : ℕ). length (recordLines m start input)) e in
-      let z : 0 + length lines ≡ length lines = zero-add (length lines) in (
-        λ j. record { replay = r j; filled = b j },
+      let lines = recordLines n first input in
+      let replay : there ≡ afterRecords n first input = t ∙ sym (turn .replay ∙ still .0) ∙ (λ j. afterRecords (e j) (s j) input) in
+      let same : recordLines total start input ≡ lines = λ j. recordLines (e j) (s j) input in
+      let bytes : filled ≡ length lines = omega (arith, turn .bytes, ap length (still .1), ap length same) in (
+        λ j. record { replay = replay j; filled = bytes j },
         (
-          f .1 ∙ ap (λ (m : ℕ). sets before 0 (recordLines m start input)) e ∙ sets-eq lines before 0 (omega (arith, lines-length n start input))
-              ∙ ap (λ (m : ℕ). lines ++ drop m before) z,
-          omega (arith, b, lines-length n start input),
+          sym (turn .lines ∙ ap (sets out filled) (still .1)) ∙ ap (sets before 0) same ∙ sets-eq lines before 0 (omega (arith, lines-length n first input))
+              ∙ ap (λ (m : ℕ). lines ++ drop m before) (zero-add (length lines)),
+          omega (arith, bytes, lines-length n first input),
         ),
       )
 
-  pub batch-returned : (after : List ℕ) (start here : Replay) (total filled : ℕ) → total ≡ recordsIn input before → start .stopped ≡ false
-      → (let begun = going (start .hart) (start .map) (start .number) in
-      (afterRecords total begun input ≡ here) × (after ≡ sets before 0 (recordLines total begun input)) × (filled ≡ length (recordLines total begun input)))
-      → (_≡_ {A = Written} (record { replay = here; filled = filled }) (batched input before start))
-      × ((after ≡ atFront (batchLines input before start) before) × (filled ≤ length before))
-  batch-returned after start here total filled e h f =
-      let s = sym (started start h) in
-      let g = returned after (going (start .hart) (start .map) (start .number)) here total filled e f in
-      (g .0 ∙ ap (batched input before) s, (g .1 .0 ∙ ap (λ (r : Replay). atFront (batchLines input before r) before) s, g .1 .1))
+module _ {input before : List ℕ} {total : ℕ} {start : Replay} {out : List ℕ} {left : ℕ} (s : State) (remap : Bool) (map : Map) (number : ℕ) {filled at : ℕ}
+    (turn : Turn input before total start out left (carried s remap map number false) filled at) (more : 0 < left) {after : List ℕ} {next : ℕ} where
+  pub turn-formed : (step : Step) {x : State} {held : Bool} {t : Taken} {k : ℕ} → held ≡ canHold s → t ≡ stepTaken held s step
+      → x ≡ ruledBy held s step .state → readStep (recordAt input at) ≡ Formed step → k ≡ (number + 1) % 2 ^ 64 → Put out filled (answerLine (t .answer)) after next
+      → Turn input before total start after (left - 1) (carried x (remap || t .remap) map k false) next (at + 60)
+  turn-formed step {x} {held} {t} {k} h e f r i put =
+      turn-next turn (carried x (remap || t .remap) map k false) (answerLine (t .answer)) after next more
+      (formed s step h e f remap map number (recordAt input at) r i) (answer-length (t .answer)) put
 
-  pub batch-stopped : (start : Replay) → start .stopped ≡ true
-      → (_≡_ {A = Written} (record { replay = start; filled = 0 }) (batched input before start))
-      × ((before ≡ atFront (batchLines input before start) before) × (0 ≤ length before))
-  batch-stopped start h =
-      let n = recordsIn input before in
-      let l = stopped-lines n start input h in
-      returned before start start n 0 refl (stopped-after n start input h, sym (ap (sets before 0) l), sym (ap length l))
+  pub turn-broken : readStep (recordAt input at) ≡ Nothing → Put out filled (brokenLine number) after next
+      → Turn input before total start after (left - 1) (carried s remap map number true) next (at + 60)
+  unfolding afterRecord recordLine
+  turn-broken r put =
+      let here = carried s remap map number false in
+      turn-next turn (carried s remap map number true) (brokenLine number) after next more (ap (afterDecoded here) r, ap (decodedLine here) r)
+      (broken-length number) put
+
+pub batch-stopped : (input before : List ℕ) (start : Replay) → start .stopped ≡ true
+    → (_≡_ {A = Written} (record { replay = start; filled = 0 }) (batched input before start))
+    × ((before ≡ atFront (batchLines input before start) before) × (0 ≤ length before))
+batch-stopped input before start h =
+    let n = recordsIn input before in
+    batch-returned (turn-start input before n start refl) start start refl refl refl (stopped-still start h (recordsOf n input))

@@ -9,15 +9,16 @@ use native.Mathlib.Numerals.{add-one}
 use lib.Dec.{eqb}
 use lib.ListN.{length, getD, take, drop, length-append, length-take}
 use lib.Seq.{sets-eq, take-suc}
-use borrow.Author.Tests.{le-ltb}
+use borrow.Author.Tests.{le-leb}
 use Rattle.map.specs.declared.Range.{Range}
 use Rattle.map.specs.declared.Map.{Map}
 use Rattle.map.specs.Lookup.{rangesIn}
 use Rattle.lines.specs.Lines.{bytesOf, hexDigits}
+use Rattle.text.specs.Text.{writtenTo}
 use Rattle.text.proofs.Form.{text-length}
-use Rattle.words.specs.Words.{wordsOf}
+use Rattle.state.specs.Words.{wordsOf}
 use Rattle.hart.specs.declared.Hart.{Hart}
-use Rattle.hart.specs.Effects.{canHold}
+use Rattle.state.specs.Hold.{canHold}
 use Rattle.hart.specs.Saved.{textFor, savedBuffer}
 use Rattle.trace.specs.declared.Replay.{Replay}
 use Rattle.trace.specs.Buffers.{Put}
@@ -27,28 +28,28 @@ use Rattle.trace.proofs.Writing.{decimal-length, hex-length, numbered-l
 
 -- ---- the state
 
-pub state-put : (h : Hart) (buffer after : List ℕ) → 1027 ≤ length buffer → canHold h ≡ true → after ≡ savedBuffer h buffer
+pub state-put : (h : Hart) (buffer after : List ℕ) → 1027 ≤ length buffer → canHold (h .state) ≡ true → after ≡ savedBuffer h buffer
     → Put buffer 0 (stateText h) after 1027
-unfolding savedBuffer stateText
+unfolding savedBuffer writtenTo stateText
 state-put h buffer after room holds e =
-    let n : length (textFor h) ≡ 1027 = text-length (wordsOf (h .registers) (h .pmp)) in
+    let n : length (textFor h) ≡ 1027 = text-length (wordsOf (h .state)) in
     rw holds (record {
       bytes =
-          e ∙ rw (holds, le-ltb (length buffer) 1027 room)
+          e ∙ rw (holds, le-leb 1027 (length buffer) room)
           (sym (sets-eq (textFor h) buffer 0 (omega arith) ∙ ap (λ (k : ℕ). textFor h ++ drop k buffer) (zero-add (length (textFor h)) ∙ n)));
       behind = omega arith;
     })
 
-pub state-none : (h : Hart) (buffer : List ℕ) → canHold h ≡ false → Put buffer 0 (stateText h) buffer 0
+pub state-none : (h : Hart) (buffer : List ℕ) → canHold (h .state) ≡ false → Put buffer 0 (stateText h) buffer 0
 unfolding stateText
 state-none h buffer holds = rw holds (record { bytes = refl; behind = refl })
 
 pub state-length : (h : Hart) → length (stateText h) ≤ 1027
 unfolding stateText
-state-length h = go (canHold h)
+state-length h = go (canHold (h .state))
   where
     go : (b : Bool) → length (cond b (textFor h) []) ≤ 1027
-    go true = omega (arith, text-length (wordsOf (h .registers) (h .pmp)))
+    go true = omega (arith, text-length (wordsOf (h .state)))
     go false = omega arith
 
 -- ---- ranges

@@ -13,13 +13,13 @@ use borrow.Author.Tests.{lt-ltb, le-ltb, le-leb, leb-true, leb-false}
 use Rattle.io.specs.Digits.{digits, glyph, Fewest}
 use Rattle.lines.specs.Lines.{bytesOf, hexDigits}
 use Rattle.lines.specs.Places.{withWord}
-use Rattle.trace.specs.Buffers.{Put, writtenTo, writtenLength}
-use Rattle.registers.specs.declared.Level.{Level}
-use Rattle.registers.specs.declared.Level.the-variants.{Supervisor, Machine}
-use Rattle.trap.specs.declared.Trap.{Trap}
-use Rattle.trap.specs.declared.Trap.the-variants.{Exception, Interrupt}
-use Rattle.trap.specs.declared.Answer.{Answer}
-use Rattle.trap.specs.declared.Answer.the-variants.{Done, DoneValue, DoneFlag, Granted, Trapped, Refused}
+use Rattle.trace.specs.Buffers.{Put, writtenFront, writtenLength}
+use Rattle.steps.specs.declared.Level.{Level}
+use Rattle.steps.specs.declared.Level.the-variants.{Supervisor, Machine}
+use Rattle.steps.specs.declared.Trap.{Trap}
+use Rattle.steps.specs.declared.Trap.the-variants.{Exception, Interrupt}
+use Rattle.steps.specs.declared.Answer.{Answer}
+use Rattle.steps.specs.declared.Answer.the-variants.{Done, DoneValue, DoneFlag, Granted, Trapped, Refused}
 use Rattle.trace.specs.Answers.{decimalIn, decimal, numberedLine, trapText, levelText, answerLine, brokenLine}
 
 -- ---- one text behind the other
@@ -159,11 +159,11 @@ broken-length number = omega (arith, numbered-length (bytesOf "refused 8 record 
 -- ---- a whole buffer
 
 module _ (room : ℕ) (text buffer : List ℕ) where
-  pub not-written : length buffer < room → (0 ≡ writtenLength room text buffer) × ((buffer ≡ writtenTo room text buffer) × (0 ≤ length buffer))
+  pub not-written : length buffer < room → (0 ≡ writtenLength room text buffer) × ((buffer ≡ writtenFront room text buffer) × (0 ≤ length buffer))
   not-written h = (rw (lt-ltb (length buffer) room h), (rw (lt-ltb (length buffer) room h), omega arith))
 
   pub written : (after : List ℕ) (next : ℕ) → room ≤ length buffer → length text ≤ room → Put buffer 0 text after next
-      → (next ≡ writtenLength room text buffer) × ((after ≡ writtenTo room text buffer) × (next ≤ length buffer))
+      → (next ≡ writtenLength room text buffer) × ((after ≡ writtenFront room text buffer) × (next ≤ length buffer))
   written after next h l put =
       let z : 0 + length text ≡ length text = zero-add (length text) in (
         rw (le-ltb (length buffer) room h) (put .behind ∙ z),

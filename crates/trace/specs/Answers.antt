@@ -4,12 +4,12 @@ use mathlib.Core.Bool.{true, false, cond}
 use mathlib.Core.List.{List, [], _∷_, _++_}
 use lib.Dec.{ltb}
 use Rattle.lines.specs.Lines.{bytesOf, hexDigits}
-use Rattle.registers.specs.declared.Level.{Level}
-use Rattle.registers.specs.declared.Level.the-variants.{Supervisor, Machine}
-use Rattle.trap.specs.declared.Trap.{Trap}
-use Rattle.trap.specs.declared.Trap.the-variants.{Exception, Interrupt}
-use Rattle.trap.specs.declared.Answer.{Answer}
-use Rattle.trap.specs.declared.Answer.the-variants.{Done, DoneValue, DoneFlag, Granted, Trapped, Refused}
+use Rattle.steps.specs.declared.Level.{Level}
+use Rattle.steps.specs.declared.Level.the-variants.{Supervisor, Machine}
+use Rattle.steps.specs.declared.Trap.{Trap}
+use Rattle.steps.specs.declared.Trap.the-variants.{Exception, Interrupt}
+use Rattle.steps.specs.declared.Answer.{Answer}
+use Rattle.steps.specs.declared.Answer.the-variants.{Done, DoneValue, DoneFlag, Granted, Trapped, Refused}
 
 -- a number in decimal, of at most n digits
 unfoldable pub decimalIn : ℕ → ℕ → List ℕ

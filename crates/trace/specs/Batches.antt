@@ -1,13 +1,16 @@
 -- Replaying a trace: each record steps the hart that the one before left, up to a broken record.
 use Prim.Native.Nat.{ℕ, zero, suc, _+_, _/_, _%_, _^_, min}
-use mathlib.Core.Bool.{true, false, cond}
-use mathlib.Core.List.{List, [], _∷_, _++_}
+use mathlib.Core.Bool.{Bool, true, false, cond}
+use mathlib.Core.List.{List, [], _∷_}
 use lib.ListN.{length, take, drop}
-use Rattle.hart.specs.declared.Step.{Step}
+use Rattle.bits.specs.Fold.{fold, outputs}
+use Rattle.steps.specs.declared.Step.{Step}
+use Rattle.steps.specs.declared.Decoded.{Decoded}
+use Rattle.steps.specs.declared.Decoded.the-variants.{Formed, Nothing}
+use Rattle.state.specs.declared.State.{State}
+use Rattle.map.specs.declared.Map.{Map}
 use Rattle.hart.specs.declared.Stepped.{Stepped}
-use Rattle.hart.specs.declared.Decoded.{Decoded}
-use Rattle.hart.specs.declared.Decoded.the-variants.{Formed, Nothing}
-use Rattle.hart.specs.Steps.{stepped}
+use Rattle.hart.specs.Steps.{mapFor, hartWith, stepped}
 use Rattle.trace.specs.declared.Replay.{Replay}
 use Rattle.trace.specs.declared.Written.{Written}
 use Rattle.trace.specs.Records.{readStep}
@@ -37,13 +40,15 @@ unfoldable pub recordLine : Replay → List ℕ → List ℕ
 recordLine r text = cond (r .stopped) [] (decodedLine r (readStep text))
 
 -- n records of 60 bytes each
-unfoldable pub afterRecords : ℕ → Replay → List ℕ → Replay
-afterRecords zero r text = r
-afterRecords (suc n) r text = afterRecords n (afterRecord r (take 60 text)) (drop 60 text)
+unfoldable pub recordsOf : ℕ → List ℕ → List (List ℕ)
+recordsOf zero text = []
+recordsOf (suc n) text = take 60 text ∷ recordsOf n (drop 60 text)
 
-unfoldable pub recordLines : ℕ → Replay → List ℕ → List ℕ
-recordLines zero r text = []
-recordLines (suc n) r text = recordLine r (take 60 text) ++ recordLines n (afterRecord r (take 60 text)) (drop 60 text)
+abbrev pub afterRecords : ℕ → Replay → List ℕ → Replay
+afterRecords n r text = fold afterRecord r (recordsOf n text)
+
+abbrev pub recordLines : ℕ → Replay → List ℕ → List ℕ
+recordLines n r text = outputs afterRecord recordLine r (recordsOf n text)
 
 -- the whole records of an input, as far as a buffer has 64 bytes for the line of each
 abbrev pub recordsIn : List ℕ → List ℕ → ℕ
@@ -58,11 +63,15 @@ batched input out start = record {
   filled = length (batchLines input out start);
 }
 
--- the steps of n records, up to the first broken one
+-- how a batch carries its replay: the state of the hart, and whether a step asked for a fresh map in place of the one given
+abbrev pub carried : State → Bool → Map → ℕ → Bool → Replay
+carried s remap map number stopped = record { hart = hartWith s; map = cond remap (mapFor (s .pmp)) map; number = number; stopped = stopped }
+
+-- the steps of records, up to the first broken one
 abbrev pub stepThen : Decoded → List Step → List Step
 stepThen (Formed step) steps = step ∷ steps
 stepThen Nothing steps = []
 
-unfoldable pub stepsRead : ℕ → List ℕ → List Step
-stepsRead zero text = []
-stepsRead (suc n) text = stepThen (readStep (take 60 text)) (stepsRead n (drop 60 text))
+unfoldable pub stepsRead : List (List ℕ) → List Step
+stepsRead [] = []
+stepsRead (text ∷ texts) = stepThen (readStep text) (stepsRead texts)

@@ -17,8 +17,8 @@ abbrev pub atFront : List ℕ → List ℕ → List ℕ
 atFront text buffer = text ++ drop (length text) buffer
 
 -- the text at the front of a buffer that has room for it; a smaller buffer stays as it was
-abbrev pub writtenTo : ℕ → List ℕ → List ℕ → List ℕ
-writtenTo room text buffer = cond (ltb (length buffer) room) buffer (atFront text buffer)
+abbrev pub writtenFront : ℕ → List ℕ → List ℕ → List ℕ
+writtenFront room text buffer = cond (ltb (length buffer) room) buffer (atFront text buffer)
 
 abbrev pub writtenLength : ℕ → List ℕ → List ℕ → ℕ
 writtenLength room text buffer = cond (ltb (length buffer) room) 0 (length text)

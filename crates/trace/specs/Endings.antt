@@ -8,14 +8,14 @@ use Rattle.map.specs.declared.Range.{Range}
 use Rattle.map.specs.Lookup.{rangesIn}
 use Rattle.lines.specs.Lines.{bytesOf, hexDigits}
 use Rattle.hart.specs.declared.Hart.{Hart}
-use Rattle.hart.specs.Effects.{canHold}
+use Rattle.state.specs.Hold.{canHold}
 use Rattle.hart.specs.Saved.{textFor}
 use Rattle.trace.specs.declared.Replay.{Replay}
 use Rattle.trace.specs.Answers.{decimal, numberedLine}
 
 -- the saved text; none where no hart can hold the state
 unfoldable pub stateText : Hart → List ℕ
-stateText h = cond (canHold h) (textFor h) []
+stateText h = cond (canHold (h .state)) (textFor h) []
 
 unfoldable pub ownerText : ℕ → List ℕ
 ownerText owner = cond (eqb owner none) (bytesOf "none") (decimal owner)

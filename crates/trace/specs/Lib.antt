@@ -1,6 +1,5 @@
 -- The definitions that the contracts cite.
 pub mod Records
-pub mod Reader
 pub mod Buffers
 pub mod Answers
 pub mod Batches

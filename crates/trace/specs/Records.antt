@@ -5,10 +5,10 @@ use mathlib.Core.Bool.{Bool, cond, _&&_, _||_, not}
 use mathlib.Core.List.{List, [], _∷_}
 use lib.Dec.{leb, eqb}
 use lib.ListN.{getD}
-use Rattle.lines.specs.Lines.{linesOf, wordsOf, isText}
-use Rattle.hart.specs.declared.Decoded.{Decoded}
-use Rattle.hart.specs.declared.Decoded.the-variants.{Nothing}
-use Rattle.hart.specs.Decode.{decoded}
+use Rattle.lines.specs.Lines.{linesOf, wordsIn, isText}
+use Rattle.steps.specs.declared.Decoded.{Decoded}
+use Rattle.steps.specs.declared.Decoded.the-variants.{Nothing}
+use Rattle.steps.specs.Decode.{decoded}
 use Rattle.trace.specs.declared.Record.{Record}
 use Rattle.trace.specs.declared.Record.the-variants.{Words, Broken}
 
@@ -25,7 +25,7 @@ three ws = Words (getD ws 0 0) (getD ws 1 0) (getD ws 2 0)
 
 -- the words of a record, or that a line is broken
 unfoldable pub readRecord : List ℕ → Record
-readRecord t = cond (isText keys t) (three (wordsOf keys t)) Broken
+readRecord t = cond (isText keys t) (three (wordsIn keys t)) Broken
 
 -- a is unused by steps 0, 7 to 12 and 14
 abbrev pub ignoresFirst : ℕ → Bool

@@ -3,13 +3,15 @@ use crate::Replay;
 use crate::Written;
 use crate::reader;
 use crate::writer;
-use hart::Decoded;
-use hart::may_remap;
+use hart::Hart;
+use map::Map;
+use steps::Decoded;
 ghost use mathlib.Core.Path.{_≡_};
 ghost use Prim.Native.Nat.{_≤_, min};
 ghost use lib.ListN.{length};
+ghost use Rattle.state.specs.Words.{stateOf};
 ghost use Rattle.trace.specs.Buffers.{atFront};
-ghost use Rattle.trace.specs.Batches.{batched, batchLines};
+ghost use Rattle.trace.specs.Batches.{carried, batched, batchLines};
 
 fn least(a: usize, b: usize) -> usize
     ensures { λ r. ⌜ r ≡ min a b ⌝ }
@@ -17,8 +19,27 @@ fn least(a: usize, b: usize) -> usize
     if a < b { a } else { b }
 }
 
+// The replay that a batch leaves. Its map is compiled here, once, where a step asked for it.
+fn handed_back(words: [u64; 41], remap: bool, map: Map, number: u64, stopped: bool) -> Replay
+    ensures { λ r. ⌜ r ≡ carried (stateOf words) remap map number stopped ⌝ }
+{
+    let state = state::of_words(words);
+    let hart = Hart { state };
+    let mut left = Replay {
+        hart,
+        map,
+        number,
+        stopped,
+    };
+    if remap {
+        let pmp = state.pmp;
+        left.map = hart::map_for(pmp);
+    }
+    left
+}
+
 // Steps through the whole records of the input, as far as the buffer has 64 bytes for the line of each, and writes their lines to its front.
-// No step takes a state that a hart can hold to one that it cannot, so refusal 3 is judged once; and few steps touch the map, so it is seldom handed on.
+// The steps are taken on the words of the hart, and no map is read.
 pub fn batch(input: &[u8], out: &mut [u8], start: Replay) -> Written
     ensures { λ r. ⌜ r ≡ batched (now (input .entry)) (now (out .entry)) start ⌝ }
     ensures { λ _. ⌜ now (out .exit) ≡ atFront (batchLines (now (input .entry)) (now (out .entry)) start) (now (out .entry)) ⌝ }
@@ -31,9 +52,12 @@ pub fn batch(input: &[u8], out: &mut [u8], start: Replay) -> Written
         };
     }
     let mut left = least(input.len() / 60, out.len() / 64);
-    let mut hart = start.hart;
-    let held = hart.can_hold();
-    let mut map = start.map;
+    let hart = start.hart;
+    let state = hart.state;
+    let mut held = state::can_hold(state);
+    let mut words = state::to_words(state);
+    let map = start.map;
+    let mut remap = false;
     let mut number = start.number;
     let mut filled: usize = 0;
     let mut at: usize = 0;
@@ -42,37 +66,17 @@ pub fn batch(input: &[u8], out: &mut [u8], start: Replay) -> Written
         let end = at + 60;
         let Decoded::Formed(step) = reader::read_step(&input[at..end]) else {
             filled = writer::put_broken(number, out, filled);
-            let replay = Replay {
-                hart,
-                map,
-                number,
-                stopped: true,
-            };
+            let replay = handed_back(words, remap, map, number, true);
             return Written { replay, filled };
         };
-        let following = std::num::wrapping_add_u64(number, 1);
-        if held & !may_remap(step) {
-            let next = hart.effect(step);
-            hart = next.hart;
-            let answer = next.answer;
-            filled = writer::put_answer(answer, out, filled);
-            number = following;
-            at = end;
-        } else {
-            let next = hart.step(map, step);
-            hart = next.hart;
-            map = next.map;
-            let answer = next.answer;
-            filled = writer::put_answer(answer, out, filled);
-            number = following;
-            at = end;
-        }
+        let next = engine::step(&mut words, held, step);
+        let answer = next.answer;
+        filled = writer::put_answer(answer, out, filled);
+        held = next.held;
+        remap = remap | next.remap;
+        number = std::num::wrapping_add_u64(number, 1);
+        at = end;
     }
-    let replay = Replay {
-        hart,
-        map,
-        number,
-        stopped: false,
-    };
+    let replay = handed_back(words, remap, map, number, false);
     Written { replay, filled }
 }

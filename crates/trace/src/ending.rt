@@ -8,10 +8,10 @@ use hart::Hart;
 use map::Map;
 use map::Range;
 ghost use mathlib.Core.Path.{_≡_};
-ghost use Prim.Native.Nat.{_+_, _≤_, min};
+ghost use Prim.Native.Nat.{_+_, _≤_};
 ghost use lib.ListN.{length};
 ghost use Rattle.map.specs.Lookup.{rangesIn};
-ghost use Rattle.trace.specs.Buffers.{Put, writtenTo, writtenLength};
+ghost use Rattle.trace.specs.Buffers.{Put, writtenFront, writtenLength};
 ghost use Rattle.trace.specs.Endings.{stateText, ownerText, rangeLine, rangeLines, ending, leftOver};
 
 fn put_state(hart: Hart, out: &mut [u8]) -> usize
@@ -48,17 +48,11 @@ fn put_range(range: Range, out: &mut [u8], place: usize) -> usize
     put(b"\n", out, next)
 }
 
-fn count_read(count: u64) -> usize
-    ensures { λ r. ⌜ r ≡ min count 33 ⌝ }
-{
-    if count < 33 { count as usize } else { 33 }
-}
-
 fn put_ranges(map: Map, out: &mut [u8], place: usize) -> usize
     requires { ⌜ place + 2112 ≤ length (now out) ⌝ }
     ensures { λ r. ⌜ Put (now (out .entry)) place (rangeLines (rangesIn map)) (now (out .exit)) r ⌝ }
 {
-    let n = count_read(map.count);
+    let n = map::count_read(map.count);
     let mut next = place;
     let mut k: usize = 0;
     while k < n {
@@ -79,7 +73,7 @@ pub fn left_over(stopped: bool, came: usize) -> usize
 // Writes the saved text of the end state, the ranges of the map and the bytes left over to the front of a buffer of at least 4,096 bytes.
 pub fn write_ending(replay: Replay, left: u64, out: &mut [u8]) -> usize
     ensures { λ r. ⌜ r ≡ writtenLength 4096 (ending replay left) (now (out .entry)) ⌝ }
-    ensures { λ _. ⌜ now (out .exit) ≡ writtenTo 4096 (ending replay left) (now (out .entry)) ⌝ }
+    ensures { λ _. ⌜ now (out .exit) ≡ writtenFront 4096 (ending replay left) (now (out .entry)) ⌝ }
     ensures { λ r. ⌜ r ≤ length (now (out .entry)) ⌝ }
 {
     if out.len() < 4096 {

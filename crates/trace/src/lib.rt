@@ -13,12 +13,6 @@ pub enum Record {
     Broken,
 }
 
-// The word of a line, and whether the line is in the form.
-struct Field {
-    ok: bool,
-    word: u64,
-}
-
 // What goes on from one record to the next: the hart with its map, the number of the next record, and whether a broken record ended the replay.
 pub struct Replay {
     pub hart: Hart,

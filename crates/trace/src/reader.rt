@@ -1,69 +1,19 @@
 // Records of a trace.
-use crate::Field;
 use crate::Record;
-use hart::Decoded;
+use steps::Decoded;
 ghost use mathlib.Core.Path.{_≡_};
-ghost use Prim.Native.Nat.{_+_, _≤_};
-ghost use lib.ListN.{length};
 ghost use Rattle.trace.specs.Records.{readRecord, ignoresFirst, ignoresSecond, unusedAreZero, recordStep, readStep};
-ghost use Rattle.trace.specs.Reader.{hasKey, digitsAt, lineAt};
 
-// Whether a text has a key, with its `=`, at a place. Every byte is looked at, and so below: without an early end several are compared at a time.
-fn has_key(text: &[u8], place: usize, key: &[u8]) -> bool
-    requires { ⌜ place + length (now key) ≤ length (now text) ⌝ }
-    ensures { λ r. ⌜ r ≡ hasKey (now (text .entry)) place (now (key .entry)) ⌝ }
-{
-    let mut same = true;
-    let mut i: usize = 0;
-    while i < key.len() {
-        same = same & (text[place + i] == key[i]);
-        i += 1;
-    }
-    same
-}
-
-// The number of sixteen digits from a place on.
-fn read_digits(text: &[u8], place: usize) -> Field
-    requires { ⌜ place + 16 ≤ length (now text) ⌝ }
-    ensures { λ r. ⌜ r ≡ digitsAt (now (text .entry)) place ⌝ }
-{
-    let mut ok = true;
-    let mut word: u64 = 0;
-    let mut j: usize = 0;
-    while j < 16 {
-        let byte = text[place + j];
-        let value = lines::digit_value(byte);
-        ok = ok & (byte == lines::hex_digit(value));
-        word = word * 16 + value;
-        j += 1;
-    }
-    Field { ok, word }
-}
-
-// The line from a place on.
-fn read_line(text: &[u8], place: usize, key: &[u8]) -> Field
-    requires { ⌜ place + length (now key) + 17 ≤ length (now text) ⌝ }
-    ensures { λ r. ⌜ r ≡ lineAt (now (text .entry)) place (now (key .entry)) ⌝ }
-{
-    let start = place + key.len();
-    let digits = read_digits(text, start);
-    let ok = has_key(text, place, key) & digits.ok & (text[start + 16] == b'\n');
-    Field {
-        ok,
-        word: digits.word,
-    }
-}
-
-// Reads a record: what the form makes of the bytes, in one pass over them.
+// Reads a record: the words of its three lines, if all of them are in the form.
 pub fn read_record(text: &[u8]) -> Record
     ensures { λ r. ⌜ r ≡ readRecord (now (text .entry)) ⌝ }
 {
     if text.len() != 60 {
         return Record::Broken;
     }
-    let step = read_line(text, 0, b"step=");
-    let a = read_line(text, 22, b"a=");
-    let b = read_line(text, 41, b"b=");
+    let step = lines::read_line(text, 0, b"step=");
+    let a = lines::read_line(text, 22, b"a=");
+    let b = lines::read_line(text, 41, b"b=");
     if step.ok & a.ok & b.ok {
         Record::Words(step.word, a.word, b.word)
     } else {
@@ -96,7 +46,7 @@ pub fn record_step(record: Record) -> Decoded
     match record {
         Record::Words(step, a, b) => {
             if unused_are_zero(step, a, b) {
-                hart::decode::decode(step, a, b)
+                steps::decode(step, a, b)
             } else {
                 Decoded::Nothing
             }

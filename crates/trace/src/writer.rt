@@ -1,15 +1,15 @@
 // Lines written into a buffer.
-use registers::Level;
-use trap::Answer;
-use trap::Trap;
+use steps::Answer;
+use steps::Level;
+use steps::Trap;
 ghost use mathlib.Core.Path.{_≡_};
 ghost use mathlib.Core.List.{_++_};
 ghost use Prim.Native.Nat.{_+_, _≤_};
 ghost use lib.ListN.{length};
 ghost use Rattle.lines.specs.Lines.{hexDigits};
-ghost use Rattle.trace.specs.Buffers.{Put, writtenTo, writtenLength};
+ghost use Rattle.trace.specs.Buffers.{Put, writtenFront, writtenLength};
 ghost use Rattle.trace.specs.Answers.{decimal, numberedLine, trapText, levelText, answerLine, brokenLine};
-ghost use Rattle.trap.specs.declared.Answer.the-variants.{DoneValue, DoneFlag, Trapped};
+ghost use Rattle.steps.specs.declared.Answer.the-variants.{DoneValue, DoneFlag, Trapped};
 
 // Each function writes from a place on and answers the place behind what it wrote.
 pub(crate) fn put(text: &[u8], out: &mut [u8], place: usize) -> usize
@@ -139,7 +139,7 @@ pub(crate) fn put_broken(number: u64, out: &mut [u8], place: usize) -> usize
 // Writes the line of an answer to the front of a buffer of at least 64 bytes.
 pub fn write_answer(answer: Answer, out: &mut [u8]) -> usize
     ensures { λ r. ⌜ r ≡ writtenLength 64 (answerLine answer) (now (out .entry)) ⌝ }
-    ensures { λ _. ⌜ now (out .exit) ≡ writtenTo 64 (answerLine answer) (now (out .entry)) ⌝ }
+    ensures { λ _. ⌜ now (out .exit) ≡ writtenFront 64 (answerLine answer) (now (out .entry)) ⌝ }
     ensures { λ r. ⌜ r ≤ length (now (out .entry)) ⌝ }
 {
     if out.len() < 64 {

@@ -10,7 +10,7 @@ use lib.Dec.{ltb}
 use borrow.Author.Tests.{ltb-true}
 use native.Mathlib.Omega.{arith}
 use Rattle.bits.proofs.Conjunction.{both}
-use Rattle.registers.specs.Hold.{all}
+use Rattle.bits.specs.Lists.{all}
 use Rattle.trap.specs.declared.Choice.the-variants.{Take, Nothing}
 use Rattle.trap.specs.Interrupt.{firstOf, priority}
 

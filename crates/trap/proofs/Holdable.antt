@@ -1,8 +1,8 @@
--- What traps, returns and time make of registers that a hart can hold, a hart can hold. Assumes nothing.
+-- What the steps of the registers alone make of registers that a hart can hold, a hart can hold. Assumes nothing.
 use mathlib.Core.Path.{_≡_, refl, _∙_}
-use mathlib.Core.Bool.{Bool, true, false, cond}
+use mathlib.Core.Bool.{true}
 use mathlib.Core.List.{[], _∷_}
-use Prim.Native.Nat.{ℕ, _+_, _-_, _*_, _%_, _^_, _<_}
+use Prim.Native.Nat.{ℕ, _+_, _*_, _%_, _^_, _<_}
 use native.Mathlib.Nat.{mod-eq-of-lt}
 use native.Mathlib.Omega.{arith}
 use borrow.Author.Tests.{eq-eqb, eqb-true, leb-true}
@@ -11,22 +11,27 @@ use lib.Dec.{eqb, leb}
 use Rattle.bits.specs.Mask.{within}
 use Rattle.bits.proofs.Conjunction.{choose, by-test}
 use Rattle.bits.proofs.BitSolve.{lit, var, and, or, eq, imp, solve}
-use Rattle.registers.specs.declared.Level.{Level}
+use Rattle.steps.specs.declared.Level.{Level}
+use Rattle.steps.specs.declared.Level.the-variants.{Supervisor, Machine}
+use Rattle.steps.specs.declared.Trap.{Trap}
+use Rattle.steps.specs.declared.Trap.the-variants.{Exception, Interrupt}
+use Rattle.steps.specs.declared.Event.{Event}
+use Rattle.steps.specs.declared.Event.the-variants.{Raise, Lines, TakeInterrupt, Mret, Sret, Wfi, Ecall, Ebreak, Advance, Elapsed}
+use Rattle.steps.specs.Number.{levelNumber, causeNumber}
 use Rattle.registers.specs.declared.Registers.{Registers}
-use Rattle.registers.specs.Hold.{isMode, aligned, registersHoldable}
-use Rattle.registers.specs.Update.{levelNumber, levelOf, withPc}
-use Rattle.registers.specs.declared.Level.the-variants.{Supervisor, Machine}
+use Rattle.registers.specs.Masks.{linesMask, causeMask}
+use Rattle.pmp.specs.Number.{isMode}
+use Rattle.registers.specs.Hold.{aligned, registersHoldable}
+use Rattle.registers.specs.Update.{levelOf, withPc}
 use Rattle.registers.proofs.Held.{held, level-held, level-hold, level-of-held, flow-kept, interrupts-kept, counters-kept, level-kept}
-use Rattle.trap.specs.declared.Trap.{Trap}
-use Rattle.trap.specs.declared.Trap.the-variants.{Exception, Interrupt}
 use Rattle.trap.specs.declared.Choice.{Choice}
 use Rattle.trap.specs.declared.Choice.the-variants.{Take, Nothing}
 use Rattle.trap.specs.declared.Outcome.{Outcome}
-use Rattle.trap.specs.Number.{causeNumber}
-use Rattle.trap.specs.Enter.{destination, base, handler, trapRecorded, entered, raised, illegalInstruction, environmentCall, breakpoint}
-use Rattle.trap.specs.Interrupt.{takeable, firstOf, priority, takenBy, interruptTaken}
+use Rattle.trap.specs.Enter.{destination, base, handler, trapRecorded, entered, raised, raiseStep, illegalInstruction}
+use Rattle.trap.specs.Interrupt.{linesStep, takeable, firstOf, priority, takenBy, interruptTaken}
 use Rattle.trap.specs.Return.{returned, mayReturn, returnStep, mayWait, nextPc, waited}
-use Rattle.trap.specs.Time.{raiseStep, linesStep, advanced, elapsed}
+use Rattle.trap.specs.Time.{advanced, elapsed}
+use Rattle.trap.specs.Events.{eventStep}
 use Rattle.trap.proofs.First.{chosen}
 use Rattle.trap.proofs.Status.{entered-status-holdable, returned-status-holdable, previous-mode-holdable}
 
@@ -38,7 +43,7 @@ Holdable o = registersHoldable (o .registers) ≡ true
 base-aligned : (tvec : ℕ) → aligned (base tvec) ≡ true
 base-aligned tvec = eq-eqb (base tvec % 4) 0 (omega arith)
 
-pub handler-aligned : (tvec : ℕ) (trap : Trap) → aligned (handler tvec trap) ≡ true
+handler-aligned : (tvec : ℕ) (trap : Trap) → aligned (handler tvec trap) ≡ true
 handler-aligned tvec (Exception c) = base-aligned tvec
 handler-aligned tvec (Interrupt i) =
     choose aligned (eqb (tvec % 4) 1) _ _ (eq-eqb ((base tvec + 4 * i) % 2 ^ 64 % 4) 0 (omega arith)) (base-aligned tvec)
@@ -50,18 +55,18 @@ next-aligned pc p = eq-eqb ((pc + 4) % 2 ^ 64 % 4) 0 (omega (arith, eqb-true (pc
 six : (n : ℕ) → n < 64 → bitAnd n 0x3F ≡ n
 six n h = and-mask n 6 ∙ mod-eq-of-lt h
 
-pub exception-within : (c : ℕ) → c < 64 → within 0x800000000000003F (causeNumber (Exception c)) ≡ true
+exception-within : (c : ℕ) → c < 64 → within causeMask (causeNumber (Exception c)) ≡ true
 exception-within c h =
-    eq-eqb (bitAnd c 0x800000000000003F) c
-    (solve (imp (and (var 0) (lit 0x3F)) (var 0) (eq (and (var 0) (lit 0x800000000000003F)) (var 0))) (c ∷ []) refl (six c h))
+    eq-eqb (bitAnd c causeMask) c
+    (solve (imp (and (var 0) (lit 0x3F)) (var 0) (eq (and (var 0) (lit causeMask)) (var 0))) (c ∷ []) refl (six c h))
 
-pub interrupt-within : (i : ℕ) → i < 64 → within 0x800000000000003F (causeNumber (Interrupt i)) ≡ true
+interrupt-within : (i : ℕ) → i < 64 → within causeMask (causeNumber (Interrupt i)) ≡ true
 interrupt-within i h =
     let e : bitOr (2 ^ 63) i ≡ 2 ^ 63 + i = or-shifted 1 63 i (omega arith) in
     rw (← e)
-    (eq-eqb (bitAnd (bitOr (2 ^ 63) i) 0x800000000000003F) (bitOr (2 ^ 63) i)
+    (eq-eqb (bitAnd (bitOr (2 ^ 63) i) causeMask) (bitOr (2 ^ 63) i)
     (solve
-    (imp (and (var 0) (lit 0x3F)) (var 0) (eq (and (or (lit (2 ^ 63)) (var 0)) (lit 0x800000000000003F)) (or (lit (2 ^ 63)) (var 0))))
+    (imp (and (var 0) (lit 0x3F)) (var 0) (eq (and (or (lit (2 ^ 63)) (var 0)) (lit causeMask)) (or (lit (2 ^ 63)) (var 0))))
     (i ∷ []) refl (six i h)))
 
 -- ---- entry
@@ -70,8 +75,8 @@ level-mode : (level : Level) → isMode (levelNumber level) ≡ true
 level-mode Supervisor = refl
 level-mode Machine = refl
 
-pub entered-holdable : (level : Level) (trap : Trap) (tval : ℕ) (r : Registers) → registersHoldable r ≡ true
-    → within 0x800000000000003F (causeNumber trap) ≡ true → registersHoldable (entered level trap tval r) ≡ true
+entered-holdable : (level : Level) (trap : Trap) (tval : ℕ) (r : Registers) → registersHoldable r ≡ true
+    → within causeMask (causeNumber trap) ≡ true → registersHoldable (entered level trap tval r) ≡ true
 unfolding entered
 entered-holdable level trap tval r p cause =
     let k = held r p in
@@ -90,27 +95,16 @@ module _ (r : Registers) (p : registersHoldable r ≡ true) where
   pub illegal-instruction-holdable : Holdable (illegalInstruction r)
   illegal-instruction-holdable = raised-holdable 2 0 (omega arith)
 
-  pub environment-call-holdable : Holdable (environmentCall r)
-  environment-call-holdable = raised-holdable (8 + r .mode % 4) 0 (omega arith)
-
-  pub breakpoint-holdable : Holdable (breakpoint r)
-  breakpoint-holdable = raised-holdable 3 0 (omega arith)
-
-  pub raise-step-holdable : (cause tval : ℕ) → Holdable (raiseStep r cause tval)
-  unfolding raiseStep
-  raise-step-holdable cause tval =
-      by-test Holdable (leb cause 7) _ _ (λ t. raised-holdable cause tval (omega (arith, leb-true cause 7 t))) (λ t. p)
+  -- a step that only moves pc
+  pub pc-holdable : (pc : ℕ) → aligned pc ≡ true → registersHoldable (withPc r pc) ≡ true
+  pc-holdable pc a = let k = held r p in flow-kept r p _ _ _ (k .mode) a (k .mstatus)
 
   taken-by-holdable : (choice : Choice) → firstOf (takeable r) priority ≡ choice → Holdable (takenBy r choice)
   taken-by-holdable (Take i) e =
       entered-holdable (destination r (Interrupt i)) (Interrupt i) 0 r p (interrupt-within i (chosen (takeable r) i e .0))
   taken-by-holdable Nothing e = p
 
-  pub interrupt-taken-holdable : Holdable (interruptTaken r)
-  unfolding interruptTaken
-  interrupt-taken-holdable = taken-by-holdable (firstOf (takeable r) priority) refl
-
-  pub return-step-holdable : (level : Level) → Holdable (returnStep level r)
+  return-step-holdable : (level : Level) → Holdable (returnStep level r)
   unfolding returnStep returned
   return-step-holdable level =
       let k = held r p in
@@ -119,25 +113,20 @@ module _ (r : Registers) (p : registersHoldable r ≡ true) where
       (λ t. flow-kept r p _ _ _ (previous-mode-holdable level (r .mstatus) (k .mstatus)) (l .epc) (returned-status-holdable level (r .mstatus) (k .mstatus)))
       (λ t. illegal-instruction-holdable)
 
-  -- a step that only moves pc
-  pub pc-holdable : (pc : ℕ) → aligned pc ≡ true → registersHoldable (withPc r pc) ≡ true
-  pc-holdable pc a = let k = held r p in flow-kept r p _ _ _ (k .mode) a (k .mstatus)
-
-  pub waited-holdable : Holdable (waited r)
-  unfolding waited
-  waited-holdable =
-      by-test Holdable (mayWait r) _ _ (λ t. pc-holdable (nextPc r) (next-aligned (r .pc) (held r p .pc))) (λ t. illegal-instruction-holdable)
-
-  pub lines-step-holdable : (lines : ℕ) → Holdable (linesStep r lines)
-  unfolding linesStep
-  lines-step-holdable lines =
+  pub event-holdable : (event : Event) → Holdable (eventStep r event)
+  unfolding raiseStep linesStep interruptTaken waited advanced elapsed
+  event-holdable (Raise cause tval) =
+      by-test Holdable (leb cause 7) _ _ (λ t. raised-holdable cause tval (omega (arith, leb-true cause 7 t))) (λ t. p)
+  event-holdable (Lines lines) =
       let k = held r p in
-      by-test Holdable (within 0xA88 lines) _ _ (λ t. interrupts-kept r p _ _ _ _ (k .mideleg) (k .mie) (k .mip) t) (λ t. p)
-
-  pub advanced-holdable : (target : ℕ) → Holdable (advanced r target)
-  unfolding advanced
-  advanced-holdable target = by-test Holdable (aligned target) _ _ (λ t. pc-holdable target t) (λ t. raised-holdable 0 target (omega arith))
-
-  pub elapsed-holdable : (cycles retired : ℕ) → Holdable (elapsed r cycles retired)
-  unfolding elapsed
-  elapsed-holdable cycles retired = counters-kept r p _ _ _ (held r p .mcountinhibit)
+      by-test Holdable (within linesMask lines) _ _ (λ t. interrupts-kept r p _ _ _ _ (k .mideleg) (k .mie) (k .mip) t) (λ t. p)
+  event-holdable TakeInterrupt = taken-by-holdable (firstOf (takeable r) priority) refl
+  event-holdable Mret = return-step-holdable Machine
+  event-holdable Sret = return-step-holdable Supervisor
+  event-holdable Wfi =
+      by-test Holdable (mayWait r) _ _ (λ t. pc-holdable (nextPc r) (next-aligned (r .pc) (held r p .pc))) (λ t. illegal-instruction-holdable)
+  event-holdable Ecall = raised-holdable (8 + r .mode % 4) 0 (omega arith)
+  event-holdable Ebreak = raised-holdable 3 0 (omega arith)
+  event-holdable (Advance target) =
+      by-test Holdable (aligned target) _ _ (λ t. pc-holdable target t) (λ t. raised-holdable 0 target (omega arith))
+  event-holdable (Elapsed cycles retired) = counters-kept r p _ _ _ (held r p .mcountinhibit)

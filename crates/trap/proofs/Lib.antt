@@ -2,3 +2,5 @@
 pub mod First
 pub mod Status
 pub mod Holdable
+pub mod Quiet
+pub mod Plain

@@ -1,20 +1,21 @@
 -- 01, "Traps, returns, time": where a trap goes, and entry to x.
 use Prim.Native.Nat.{ℕ, _+_, _-_, _*_, _%_, _^_}
-use mathlib.Core.Bool.{Bool, cond, not, _&&_}
+use mathlib.Core.Bool.{cond, not, _&&_}
 use lib.Bits.{bitAnd, bitOr}
-use lib.Dec.{eqb}
+use lib.Dec.{eqb, leb}
 use Rattle.bits.specs.Mask.{testBit, cleared}
-use Rattle.registers.specs.declared.Level.{Level}
-use Rattle.registers.specs.declared.Level.the-variants.{Supervisor, Machine}
+use Rattle.steps.specs.declared.Level.{Level}
+use Rattle.steps.specs.declared.Level.the-variants.{Supervisor, Machine}
+use Rattle.steps.specs.declared.Trap.{Trap}
+use Rattle.steps.specs.declared.Trap.the-variants.{Exception, Interrupt}
+use Rattle.steps.specs.declared.Answer.the-variants.{Trapped}
+use Rattle.steps.specs.Number.{levelNumber, causeNumber}
 use Rattle.registers.specs.declared.LevelRegisters.{LevelRegisters}
 use Rattle.registers.specs.declared.Registers.{Registers}
-use Rattle.registers.specs.Update.{levelNumber, levelOf, withLevel, withFlow}
+use Rattle.registers.specs.Update.{levelOf, withLevel, withFlow}
 use Rattle.registers.specs.Status.{ieMask, pieMask, ppMask, ppUnit, ppModes}
-use Rattle.trap.specs.declared.Trap.{Trap}
-use Rattle.trap.specs.declared.Trap.the-variants.{Exception, Interrupt}
-use Rattle.trap.specs.declared.Answer.the-variants.{Trapped}
 use Rattle.trap.specs.declared.Outcome.{Outcome}
-use Rattle.trap.specs.Number.{causeNumber}
+use Rattle.trap.specs.Refusal.{refusedStep}
 
 -- exception c goes to S if mode is not M and medeleg bit c is 1, else to M; interrupt i goes to S if mideleg bit i is 1, else to M
 abbrev pub destination : Registers → Trap → Level
@@ -62,6 +63,10 @@ raised r cause tval =
       registers = entered (destination r (Exception cause)) (Exception cause) tval r;
       answer = Trapped (Exception cause) (destination r (Exception cause));
     }
+
+-- 01, "Steps": raise; a cause above 7 is refusal 2
+unfoldable pub raiseStep : Registers → ℕ → ℕ → Outcome
+raiseStep r cause tval = cond (leb cause 7) (raised r cause tval) (refusedStep r 2)
 
 -- 01, "Registers and access to them": illegal instruction is cause 2 with trap value 0
 abbrev pub illegalInstruction : Registers → Outcome

@@ -1,29 +1,41 @@
--- 01, "Traps, returns, time": step 7, take interrupt.
+-- 01, "Traps, returns, time": step 7, take interrupt; and "Steps": lines.
 use Prim.Native.Nat.{ℕ}
-use mathlib.Core.Bool.{Bool, true, false, cond, not, _&&_, _||_}
+use mathlib.Core.Bool.{Bool, true, false, cond, _&&_, _||_}
 use mathlib.Core.List.{List, [], _∷_}
-use lib.Bits.{bitAnd, bitOr}
 use lib.Dec.{eqb, ltb}
-use Rattle.bits.specs.Mask.{testBit}
+use Rattle.bits.specs.Mask.{within, testBit}
+use Rattle.steps.specs.declared.Level.{Level}
+use Rattle.steps.specs.declared.Level.the-variants.{Supervisor, Machine}
+use Rattle.steps.specs.declared.Trap.the-variants.{Interrupt}
+use Rattle.steps.specs.declared.Answer.the-variants.{Done, DoneFlag}
 use Rattle.registers.specs.declared.Registers.{Registers}
-use Rattle.trap.specs.declared.Trap.the-variants.{Exception, Interrupt}
-use Rattle.trap.specs.declared.Answer.the-variants.{DoneFlag}
+use Rattle.registers.specs.Masks.{linesMask}
+use Rattle.registers.specs.Status.{enabled, pending}
+use Rattle.registers.specs.Update.{withInterrupts}
 use Rattle.trap.specs.declared.Choice.{Choice}
 use Rattle.trap.specs.declared.Choice.the-variants.{Take, Nothing}
 use Rattle.trap.specs.declared.Outcome.{Outcome}
+use Rattle.trap.specs.Refusal.{refusedStep}
 use Rattle.trap.specs.Enter.{destination, entered}
 
--- 01, "Registers and access to them": mip reads software bits or lines
-abbrev pub pending : Registers → ℕ
-pending r = bitOr (r .interrupts .mip) (r .interrupts .lines)
+-- lines: outside 0xA88 is refusal 2; else they are replaced
+unfoldable pub linesStep : Registers → ℕ → Outcome
+linesStep r lines =
+    cond (within linesMask lines)
+    (record {
+      registers = withInterrupts r (r .interrupts .mideleg) (r .interrupts .mie) (r .interrupts .mip) lines;
+      answer = Done;
+    })
+    (refusedStep r 2)
 
--- mip and mie bit i are 1 and, not delegated, mode is below M or MIE=1; delegated, mode is U, or S with SIE=1
+-- not delegated (to M), mode is below M or MIE=1; delegated (to S), mode is U, or S with SIE=1
+abbrev pub admits : Level → Registers → Bool
+admits Machine r = ltb (r .mode) 3 || enabled Machine (r .mstatus)
+admits Supervisor r = eqb (r .mode) 0 || (eqb (r .mode) 1 && enabled Supervisor (r .mstatus))
+
+-- interrupt i is takeable if mip and mie bit i are 1 and the level that it goes to admits it
 unfoldable pub takeable : Registers → ℕ → Bool
-takeable r i =
-    testBit (pending r) i && (testBit (r .interrupts .mie) i
-    && cond (testBit (r .interrupts .mideleg) i)
-    (eqb (r .mode) 0 || (eqb (r .mode) 1 && testBit (r .mstatus) 1))
-    (ltb (r .mode) 3 || testBit (r .mstatus) 3))
+takeable r i = testBit (pending r) i && (testBit (r .interrupts .mie) i && admits (destination r (Interrupt i)) r)
 
 -- the first number of the list that passes the test
 abbrev pub firstOf : (ℕ → Bool) → List ℕ → Choice

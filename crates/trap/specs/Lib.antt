@@ -1,6 +1,7 @@
 -- The definitions that the contracts cite.
-pub mod Number
+pub mod Refusal
 pub mod Enter
 pub mod Interrupt
 pub mod Return
 pub mod Time
+pub mod Events

@@ -4,20 +4,23 @@ use mathlib.Core.Bool.{Bool, cond, not, _&&_, _||_}
 use lib.Bits.{bitAnd, bitOr}
 use lib.Dec.{eqb}
 use Rattle.bits.specs.Mask.{cleared}
-use Rattle.registers.specs.declared.Level.{Level}
-use Rattle.registers.specs.declared.Level.the-variants.{Supervisor, Machine}
+use Rattle.steps.specs.declared.Level.{Level}
+use Rattle.steps.specs.declared.Level.the-variants.{Supervisor, Machine}
+use Rattle.steps.specs.declared.Answer.the-variants.{Done, DoneFlag}
 use Rattle.registers.specs.declared.Registers.{Registers}
 use Rattle.registers.specs.Update.{levelOf, withFlow, withPc}
-use Rattle.registers.specs.Status.{ieMask, pieMask, ppMask, previousMode, mprvMask, tw, tsr}
-use Rattle.trap.specs.declared.Answer.the-variants.{Done, DoneFlag}
+use Rattle.registers.specs.Status.{ieMask, pieMask, ppMask, previousMode, mprvMask, tw, tsr, pending}
 use Rattle.trap.specs.declared.Outcome.{Outcome}
 use Rattle.trap.specs.Enter.{illegalInstruction}
-use Rattle.trap.specs.Interrupt.{pending}
+
+-- MPRV=0 unless the new mode is M
+abbrev pub clearedMprv : ℕ → ℕ
+clearedMprv mode = cond (eqb mode 3) 0 mprvMask
 
 -- xIE=xPIE, xPIE=1, xPP=0, and MPRV=0 unless the new mode is M
 unfoldable pub returnedStatus : Level → ℕ → ℕ
 returnedStatus level mstatus =
-    bitOr (cleared (ieMask level + ppMask level + cond (eqb (previousMode level mstatus) 3) 0 mprvMask) mstatus)
+    bitOr (cleared (ieMask level + ppMask level) (cleared (clearedMprv (previousMode level mstatus)) mstatus))
     (bitOr (bitAnd mstatus (pieMask level) / 16) (pieMask level))
 
 -- pc=xepc, mode=xPP

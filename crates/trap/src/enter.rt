@@ -1,63 +1,27 @@
 // Entry to a level, and the exceptions that the steps raise.
-use crate::Answer;
 use crate::Outcome;
-use crate::Trap;
-use registers::Level;
-use registers::LevelRegisters;
+use crate::refuse;
+use bits::has_bit;
 use registers::Registers;
+use registers::fields::MIE;
+use registers::fields::MPIE;
+use registers::fields::MPP;
+use registers::fields::MPP_ONE;
+use registers::fields::SIE;
+use registers::fields::SPIE;
+use registers::fields::SPP;
+use registers::level_registers;
+use registers::with_level_registers;
+use steps::Answer;
+use steps::Level;
+use steps::Trap;
+use steps::level_number;
 ghost use mathlib.Core.Path.{_≡_};
 ghost use mathlib.Core.Bool.{cond};
 ghost use Prim.Native.Nat.{_<_};
-ghost use Rattle.bits.specs.Mask.{testBit};
-ghost use Rattle.registers.specs.declared.Level.the-variants.{Supervisor, Machine};
-ghost use Rattle.registers.specs.Update.{levelNumber, levelOf, withLevel};
-ghost use Rattle.trap.specs.Number.{causeNumber, interruptNumber};
-ghost use Rattle.trap.specs.Enter.{destination, handler, enteredStatus, entered, raised, illegalInstruction, environmentCall, breakpoint};
-
-// Whether a bit of a word is 1; past the word there is none.
-pub fn has_bit(word: u64, place: u64) -> bool
-    ensures { λ b. ⌜ b ≡ testBit word place ⌝ }
-{
-    if place < 64 {
-        (word >> place) % 2 == 1
-    } else {
-        false
-    }
-}
-
-pub fn level_number(level: Level) -> u64
-    ensures { λ n. ⌜ n ≡ levelNumber level ⌝ }
-{
-    match level {
-        Level::Supervisor => 1,
-        Level::Machine => 3,
-    }
-}
-
-pub fn level_registers(level: Level, r: Registers) -> LevelRegisters
-    ensures { λ l. ⌜ l ≡ levelOf level r ⌝ }
-{
-    match level {
-        Level::Supervisor => r.supervisor,
-        Level::Machine => r.machine,
-    }
-}
-
-pub fn with_level_registers(level: Level, r: Registers, l: LevelRegisters) -> Registers
-    ensures { λ e. ⌜ e ≡ withLevel level r l ⌝ }
-{
-    let mut e = r;
-    match level {
-        Level::Supervisor => {
-            e.supervisor = l;
-            e
-        }
-        Level::Machine => {
-            e.machine = l;
-            e
-        }
-    }
-}
+ghost use Rattle.steps.specs.declared.Level.the-variants.{Supervisor, Machine};
+ghost use Rattle.steps.specs.Number.{causeNumber, interruptNumber};
+ghost use Rattle.trap.specs.Enter.{destination, handler, enteredStatus, entered, raised, raiseStep, illegalInstruction, environmentCall, breakpoint};
 
 fn chosen_level(supervisor: bool) -> Level
     ensures { λ l. ⌜ l ≡ cond supervisor Supervisor Machine ⌝ }
@@ -70,7 +34,7 @@ fn chosen_level(supervisor: bool) -> Level
 }
 
 // The level that a trap is taken to.
-pub fn trap_level(r: Registers, trap: Trap) -> Level
+pub(crate) fn trap_level(r: Registers, trap: Trap) -> Level
     ensures { λ l. ⌜ l ≡ destination r trap ⌝ }
 {
     match trap {
@@ -109,20 +73,19 @@ fn handler_address(tvec: u64, trap: Trap) -> u64
 }
 
 // mstatus after entry to a level from a mode.
-pub fn entered_status(level: Level, mode: u64, mstatus: u64) -> u64
+fn entered_status(level: Level, mode: u64, mstatus: u64) -> u64
     ensures { λ s. ⌜ s ≡ enteredStatus level mode mstatus ⌝ }
 {
     match level {
         Level::Supervisor => {
-            (mstatus & 0xFFFFFFFFFFFFFEDD) | ((mstatus & 0x2) * 16 | mode % 2 * 0x100)
+            (mstatus & !(SIE | SPIE | SPP)) | ((mstatus & SIE) * 16 | mode % 2 * SPP)
         }
         Level::Machine => {
-            (mstatus & 0xFFFFFFFFFFFFE777) | ((mstatus & 0x8) * 16 | mode % 4 * 0x800)
+            (mstatus & !(MIE | MPIE | MPP)) | ((mstatus & MIE) * 16 | mode % 4 * MPP_ONE)
         }
     }
 }
 
-// Entry to a level.
 pub(crate) fn enter_level(level: Level, trap: Trap, tval: u64, r: Registers) -> Registers
     requires { ⌜ interruptNumber trap < 64 ⌝ }
     ensures { λ e. ⌜ e ≡ entered level trap tval r ⌝ }
@@ -148,6 +111,17 @@ pub fn raise(r: Registers, cause: u64, tval: u64) -> Outcome
     Outcome {
         registers: enter_level(level, trap, tval, r),
         answer: Answer::Trapped(trap, level),
+    }
+}
+
+// Raises an exception of a cause up to 7; another is refused.
+pub fn raise_step(r: Registers, cause: u64, tval: u64) -> Outcome
+    ensures { λ o. ⌜ o ≡ raiseStep r cause tval ⌝ }
+{
+    if cause <= 7 {
+        raise(r, cause, tval)
+    } else {
+        refuse(r, 2)
     }
 }
 

@@ -1,46 +1,56 @@
-// Taking an interrupt.
-use crate::Answer;
+// The lines, and taking an interrupt.
 use crate::Choice;
 use crate::Outcome;
-use crate::Trap;
 use crate::enter::enter_level;
-use crate::enter::has_bit;
 use crate::enter::trap_level;
+use crate::refuse;
+use bits::has_bit;
 use registers::Registers;
+use registers::fields::MIE;
+use registers::fields::SIE;
+use registers::masks::LINES;
+use registers::pending_interrupts;
+use steps::Answer;
+use steps::Level;
+use steps::Trap;
 ghost use mathlib.Core.Path.{_≡_};
-ghost use mathlib.Core.Bool.{cond, _&&_, _||_};
-ghost use lib.Dec.{eqb, ltb};
-ghost use Rattle.bits.specs.Mask.{testBit};
-ghost use Rattle.trap.specs.Interrupt.{pending, takeable, firstOf, priority, interruptTaken};
+ghost use Rattle.trap.specs.Interrupt.{linesStep, admits, takeable, firstOf, priority, interruptTaken};
 
-// mip as it is read: the software bits or the lines.
-pub fn pending_interrupts(r: Registers) -> u64
-    ensures { λ p. ⌜ p ≡ pending r ⌝ }
+// Replaces the lines; bits that are no lines are refused.
+pub fn lines_step(r: Registers, lines: u64) -> Outcome
+    ensures { λ o. ⌜ o ≡ linesStep r lines ⌝ }
 {
-    r.interrupts.mip | r.interrupts.lines
-}
-
-// Whether mode and mstatus let an interrupt in.
-fn is_open(delegated: bool, mode: u64, mstatus: u64) -> bool
-    ensures { λ b. ⌜ b ≡ cond delegated (eqb mode 0 || (eqb mode 1 && testBit mstatus 1)) (ltb mode 3 || testBit mstatus 3) ⌝ }
-{
-    if delegated {
-        (mode == 0) | ((mode == 1) & ((mstatus >> 1) % 2 == 1))
+    if lines & LINES == lines {
+        let mut e = r;
+        e.interrupts.lines = lines;
+        Outcome {
+            registers: e,
+            answer: Answer::Done,
+        }
     } else {
-        (mode < 3) | ((mstatus >> 3) % 2 == 1)
+        refuse(r, 2)
     }
 }
 
-pub fn is_takeable(r: Registers, number: u64) -> bool
+// Whether mode and mstatus admit an interrupt that goes to the level.
+fn admits(level: Level, r: Registers) -> bool
+    ensures { λ b. ⌜ b ≡ admits level r ⌝ }
+{
+    match level {
+        Level::Machine => (r.mode < 3) | (r.mstatus / MIE % 2 == 1),
+        Level::Supervisor => (r.mode == 0) | ((r.mode == 1) & (r.mstatus / SIE % 2 == 1)),
+    }
+}
+
+fn is_takeable(r: Registers, number: u64) -> bool
     ensures { λ b. ⌜ b ≡ takeable r number ⌝ }
 {
-    let delegated = has_bit(r.interrupts.mideleg, number);
-    has_bit(pending_interrupts(r), number)
-        & (has_bit(r.interrupts.mie, number) & is_open(delegated, r.mode, r.mstatus))
+    let level = trap_level(r, Trap::Interrupt(number));
+    has_bit(pending_interrupts(r), number) & (has_bit(r.interrupts.mie, number) & admits(level, r))
 }
 
 // The first takeable interrupt.
-pub fn first_takeable(r: Registers) -> Choice
+fn first_takeable(r: Registers) -> Choice
     ensures { λ c. ⌜ c ≡ firstOf (takeable r) priority ⌝ }
 {
     let order: [u64; 6] = [11, 3, 7, 9, 1, 5];

@@ -1,58 +1,40 @@
 // MRET, SRET and WFI.
-use crate::Answer;
 use crate::Outcome;
 use crate::enter::illegal_instruction;
-use crate::enter::level_registers;
-use crate::interrupt::pending_interrupts;
-use registers::Level;
 use registers::Registers;
+use registers::fields::MIE;
+use registers::fields::MPIE;
+use registers::fields::MPP;
+use registers::fields::MPRV;
+use registers::fields::SIE;
+use registers::fields::SPIE;
+use registers::fields::SPP;
+use registers::fields::TSR;
+use registers::fields::TW;
+use registers::level_registers;
+use registers::pending_interrupts;
+use registers::previous_mode;
+use steps::Answer;
+use steps::Level;
 ghost use mathlib.Core.Path.{_≡_};
-ghost use mathlib.Core.Bool.{cond};
-ghost use Prim.Native.Nat.{_+_, _-_, _%_, _^_};
-ghost use lib.Dec.{eqb};
-ghost use Rattle.registers.specs.Status.{ieMask, ppMask, previousMode, mprvMask};
-ghost use Rattle.trap.specs.Return.{returnedStatus, returned, mayReturn, returnStep, mayWait, waited};
+ghost use Prim.Native.Nat.{_+_, _%_, _^_};
+ghost use Rattle.trap.specs.Return.{clearedMprv, returnedStatus, returned, mayReturn, returnStep, mayWait, waited};
 
-// The number in MPP or SPP.
-pub fn previous_mode(level: Level, mstatus: u64) -> u64
-    ensures { λ m. ⌜ m ≡ previousMode level mstatus ⌝ }
+// MPRV where a return to the mode clears it.
+fn cleared_mprv(mode: u64) -> u64
+    ensures { λ m. ⌜ m ≡ clearedMprv mode ⌝ }
 {
-    match level {
-        Level::Supervisor => (mstatus & 0x100) / 0x100,
-        Level::Machine => (mstatus & 0x1800) / 0x800,
-    }
-}
-
-// The bits of mstatus that a return to a mode leaves.
-fn kept_by_return(level: Level, mode: u64) -> u64
-    ensures { λ m. ⌜ m ≡ 2 ^ 64 - 1 - (ieMask level + ppMask level + cond (eqb mode 3) 0 mprvMask) ⌝ }
-{
-    match level {
-        Level::Supervisor => {
-            if mode == 3 {
-                0xFFFFFFFFFFFFFEFD
-            } else {
-                0xFFFFFFFFFFFDFEFD
-            }
-        }
-        Level::Machine => {
-            if mode == 3 {
-                0xFFFFFFFFFFFFE7F7
-            } else {
-                0xFFFFFFFFFFFDE7F7
-            }
-        }
-    }
+    if mode == 3 { 0 } else { MPRV }
 }
 
 // mstatus after a return.
-pub fn returned_status(level: Level, mstatus: u64) -> u64
+fn returned_status(level: Level, mstatus: u64) -> u64
     ensures { λ s. ⌜ s ≡ returnedStatus level mstatus ⌝ }
 {
-    let kept = mstatus & kept_by_return(level, previous_mode(level, mstatus));
+    let kept = mstatus & !cleared_mprv(previous_mode(level, mstatus));
     match level {
-        Level::Supervisor => kept | ((mstatus & 0x20) / 16 | 0x20),
-        Level::Machine => kept | ((mstatus & 0x80) / 16 | 0x80),
+        Level::Supervisor => (kept & !(SIE | SPP)) | ((mstatus & SPIE) / 16 | SPIE),
+        Level::Machine => (kept & !(MIE | MPP)) | ((mstatus & MPIE) / 16 | MPIE),
     }
 }
 
@@ -71,7 +53,7 @@ fn may_return(level: Level, r: Registers) -> bool
     ensures { λ b. ⌜ b ≡ mayReturn level r ⌝ }
 {
     match level {
-        Level::Supervisor => { (r.mode == 3) | ((r.mode == 1) & !((r.mstatus >> 22) % 2 == 1)) }
+        Level::Supervisor => (r.mode == 3) | ((r.mode == 1) & (r.mstatus / TSR % 2 != 1)),
         Level::Machine => r.mode == 3,
     }
 }
@@ -93,7 +75,7 @@ pub fn return_from(level: Level, r: Registers) -> Outcome
 fn may_wait(r: Registers) -> bool
     ensures { λ b. ⌜ b ≡ mayWait r ⌝ }
 {
-    (r.mode == 3) | ((r.mode == 1) & !((r.mstatus >> 21) % 2 == 1))
+    (r.mode == 3) | ((r.mode == 1) & (r.mstatus / TW % 2 != 1))
 }
 
 // pc after a completed CSR step or WFI.

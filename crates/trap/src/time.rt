@@ -1,45 +1,11 @@
-// The steps raise, lines, advance and elapsed.
-use crate::Answer;
+// The steps advance and elapsed.
 use crate::Outcome;
-use crate::enter::has_bit;
 use crate::enter::raise;
+use bits::has_bit;
 use registers::Registers;
+use steps::Answer;
 ghost use mathlib.Core.Path.{_≡_};
-ghost use Rattle.trap.specs.Time.{refusedStep, raiseStep, linesStep, advanced, counted, elapsed};
-
-fn refuse(r: Registers, number: u64) -> Outcome
-    ensures { λ o. ⌜ o ≡ refusedStep r number ⌝ }
-{
-    Outcome {
-        registers: r,
-        answer: Answer::Refused(number),
-    }
-}
-
-pub fn raise_step(r: Registers, cause: u64, tval: u64) -> Outcome
-    ensures { λ o. ⌜ o ≡ raiseStep r cause tval ⌝ }
-{
-    if cause <= 7 {
-        raise(r, cause, tval)
-    } else {
-        refuse(r, 2)
-    }
-}
-
-pub fn lines_step(r: Registers, lines: u64) -> Outcome
-    ensures { λ o. ⌜ o ≡ linesStep r lines ⌝ }
-{
-    if lines & 0xA88 == lines {
-        let mut e = r;
-        e.interrupts.lines = lines;
-        Outcome {
-            registers: e,
-            answer: Answer::Done,
-        }
-    } else {
-        refuse(r, 2)
-    }
-}
+ghost use Rattle.trap.specs.Time.{advanced, counted, elapsed};
 
 pub fn advance(r: Registers, target: u64) -> Outcome
     ensures { λ o. ⌜ o ≡ advanced r target ⌝ }

@@ -4,8 +4,7 @@ use mathlib.Core.Bool.{true, false}
 use lib.ListN.{length}
 use borrow.Author.Needs.{needs}
 use borrow.Author.Tests.{not-true, not-false}
-use Rattle.capi.specs.Answers.{decisionWords}
-use Rattle.capi.specs.Calls.{queryable}
+use Rattle.capi.specs.Calls.{decisionWords, queryable}
 use Rattle.capi.proofs.QueryLaws.{test, lengths, result-is, answer-is}
 use Rattle.capi.proofs.tegrwyllt_query.Statement.{statement}
 use Rattle.capi.proofs.tegrwyllt_query.Tie as tie

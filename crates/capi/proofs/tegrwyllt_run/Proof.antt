@@ -1,11 +1,10 @@
--- `tegrwyllt_run` meets its contract. Assumes nothing.
-use borrow.Author.Needs.{needs}
-use mathlib.Core.Path.{_≡_, refl, sym, ap, _∙_}
-use mathlib.Core.Bool.{Bool, true, _&&_}
+use mathlib.Core.Path.{_≡_, sym, _∙_}
+use mathlib.Core.Bool.{true, _&&_}
 use lib.Dec.{eqb}
 use lib.ListN.{length}
 use borrow.Author.Tests.{not-true, not-false}
-use Rattle.capi.proofs.CallLaws.{runTest, run-unmade, run-lengths, run-made, leaves, leaves-by}
+use Rattle.capi.proofs.CallLaws.{runTest, unmade, hart-fits, map-fits, made}
+use borrow.Author.Needs.{needs}
 use Rattle.capi.proofs.tegrwyllt_run.Statement.{statement}
 use Rattle.capi.proofs.tegrwyllt_run.Tie as tie
 
@@ -21,25 +20,28 @@ returns : tie.Need-returns
 returns c =
     let n = c .before in
     let a = n .before .before .before .before .before .before .args in
-    leaves (run-unmade (a .hart .now) (a .map .now) (a .steps .now) (a .answers .now) (sym (tested n) ∙ not-true _ (c .if1 .taken)))
+    unmade (a .hart .now) (a .map .now) (a .steps .now) (a .answers .now) (sym (tested n) ∙ not-true _ (c .if1 .taken))
 
-made : (c : tie.Else1) → let a = c .before .before .before .before .before .before .before .args in
+test : (c : tie.Else1) → let a = c .before .before .before .before .before .before .before .args in
     runTest (a .hart .now) (a .map .now) (a .steps .now) (a .answers .now) ≡ true
-made c = sym (tested (c .before)) ∙ not-false _ (c .if1 .left)
+test c = sym (tested (c .before)) ∙ not-false _ (c .if1 .left)
 
-run-requires : tie.Need-run-requires
-run-requires c κs =
-    let e = c .before .before .before in
+renew-requires : tie.Need-renew-requires
+renew-requires c κs =
+    let e = c .before .before .before .before .before .before .before .before .before in
     let a = e .before .before .before .before .before .before .before .args in
-    run-lengths (a .hart .now) (a .map .now) (a .steps .now) (a .answers .now) (made e)
+    map-fits (a .hart .now) (a .map .now) (a .steps .now) (a .answers .now) (test e)
 
 returns-2 : tie.Need-returns-2
 returns-2 c =
-    let r = c .before .before .before .before .before .before in
-    let e = r .before .before .before .before in
+    let n = c .before .before in
+    let r = n .before .before .before .before .before .before .before in
+    let e = r .before .before .before in
     let a = e .before .before .before .before .before .before .before .args in
-    leaves-by (run-made (a .hart .now) (a .map .now) (a .steps .now) (a .answers .now) (made e))
-    (r .run .ensures .0) (r .run .ensures .1 .0) (r .run .ensures .1 .1)
+    let t = test e in
+    let h = hart-fits (a .hart .now) (a .map .now) (a .steps .now) (a .answers .now) t in
+    let k = r .run .ensures in
+    made (a .hart .now) (a .map .now) (a .steps .now) (a .answers .now) t (search (needs, h)) (k .0) (k .1 .0) (k .1 .1 .0) (k .1 .1 .1) (n .renew .ensures)
 
 pub tegrwyllt-run-spec : {M : Type 1} → statement M
 tegrwyllt-run-spec =
@@ -48,7 +50,8 @@ tegrwyllt-run-spec =
     (λ c κs. search needs)
     (λ c κs. search needs)
     returns
-    run-requires
+    (λ c κs. search needs)
+    renew-requires
     (λ c. search needs)
     (λ c. search needs)
     (λ c. search needs)

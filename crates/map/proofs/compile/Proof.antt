@@ -6,7 +6,7 @@ use native.Mathlib.Numerals.{add-one}
 use borrow.Author.Needs.{needs}
 use lib.ListN.{length, getD, length-set}
 use Rattle.pmp.specs.Entry.{spanOf, fieldA, addressBefore}
-use Rattle.map.proofs.SweepLaws.{Filled, filled-next, filled-settled, filled-compiled}
+use Rattle.map.proofs.SweepLaws.{Filled, filled-next, filled-normalized, filled-compiled}
 use Rattle.map.proofs.compile.Statement.{statement}
 use Rattle.map.proofs.compile.Tie as tie
 
@@ -24,7 +24,7 @@ loop-again : tie.Need-loop-again Inv-loop μ-loop
 loop-again c =
     let l = c .before .before .before .loop in
     let a = c .before .before .before .before .args in
-    let s = c .settle .result in (
+    let s = c .normalize .result in (
       omega arith,
       length-set (l .lows) (l .entry) (s .low) ∙ l .inv .1,
       length-set (l .highs) (l .entry) (s .high) ∙ l .inv .2,
@@ -32,14 +32,14 @@ loop-again c =
       filled-next (a .t1) (a .t2) (l .lows) (l .highs) (l .entry) (c .before .entry-span .result) s
           (l .inv .1) (l .inv .2) (c .before .before .loop-test .taken) (l .inv .4)
           (c .before .entry-span .ensures ∙ ap (λ (b : ℕ). spanOf (fieldA (getD (a .t1) (l .entry) 0)) (getD (a .t2) (l .entry) 0) b) (l .inv .3))
-          (c .settle .ensures),
+          (c .normalize .ensures),
     )
 
 sweep-requires : tie.Need-sweep-requires Inv-loop μ-loop
 sweep-requires c κs =
     let l = c .before .before .before .loop in
     let a = c .before .before .before .before .args in
-    filled-settled (a .t1) (a .t2) (l .lows) (l .highs) (λ k h. l .inv .4 k (omega arith))
+    filled-normalized (a .t1) (a .t2) (l .lows) (l .highs) (λ k h. l .inv .4 k (omega arith))
 
 returns : tie.Need-returns Inv-loop μ-loop
 returns c =

@@ -5,7 +5,7 @@ use native.Mathlib.Omega.{arith}
 use borrow.Author.Needs.{needs}
 use Rattle.pmp.specs.Entry.{top}
 use Rattle.map.specs.Sweep.{spansIn, rangeFrom}
-use Rattle.map.proofs.RunLaws.{from-later, from-owner, from-past, from-end}
+use Rattle.map.proofs.RangeFromLaws.{from-later, from-owner, from-past, from-end}
 use Rattle.map.proofs.range_from.Statement.{statement}
 use Rattle.map.proofs.range_from.Tie as tie
 

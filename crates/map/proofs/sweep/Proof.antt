@@ -6,7 +6,7 @@ use borrow.Author.Needs.{needs}
 use Rattle.pmp.specs.declared.Span.{Span}
 use Rattle.pmp.specs.Entry.{top}
 use Rattle.map.specs.Sweep.{spansIn}
-use Rattle.map.proofs.RunLaws.{range-bounds}
+use Rattle.map.proofs.RangeFromLaws.{range-bounds}
 use Rattle.map.proofs.SweepLaws.{Swept, swept-start, swept-room, swept-next, swept-end}
 use Rattle.map.proofs.sweep.Statement.{statement}
 use Rattle.map.proofs.sweep.Tie as tie

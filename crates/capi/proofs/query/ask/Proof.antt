@@ -1,5 +1,5 @@
 use borrow.Author.Needs.{needs}
-use Rattle.capi.proofs.QueryLaws.{asked}
+use Rattle.capi.proofs.QueryLaws.{answered}
 use Rattle.capi.proofs.query.ask.Statement.{statement}
 use Rattle.capi.proofs.query.ask.Tie as tie
 
@@ -8,8 +8,9 @@ returns c =
     let o = c .before .before .before in
     let f = o .before in
     let l = f .before in
-    let a = l .before .before .before .args in
-    asked (a .hart .now) (a .map .now) (a .mode) (a .kind) (a .address) (a .size) (l .load .ensures) (f .find .ensures) (o .map-with .ensures)
+    let b = l .before .before .before in
+    let a = b .args in
+    answered (a .hart .now) (a .map .now) (b .pre .0) (a .mode) (a .kind) (a .address) (a .size) (l .load .ensures) (f .find .ensures) (o .map-with .ensures)
     (c .before .before .mode-of .ensures) (c .before .access-of .ensures) (c .query .ensures)
 
 pub ask-spec : {M : Type 1} → statement M

@@ -1,14 +1,12 @@
-use borrow.Author.Needs.{needs}
 use mathlib.Core.Path.{sym, _∙_}
 use Rattle.hart.specs.Queries.{queryAnswer}
+use borrow.Author.Needs.{needs}
 use Rattle.hart.proofs.Hart.query.Statement.{statement}
 use Rattle.hart.proofs.Hart.query.Tie as tie
 
 returns : tie.Need-returns
 unfolding queryAnswer
-returns c =
-    let t = c .before .before .before in
-    rw (sym (t .before .can-hold .ensures) ∙ t .if1 .taken) (c .query .ensures)
+returns c = let t = c .before .before .before .before in rw (sym (t .before .can-hold .ensures) ∙ t .if1 .taken) (c .query .ensures)
 
 returns-2 : tie.Need-returns-2
 unfolding queryAnswer

@@ -11,10 +11,10 @@ abbrev μ-loop : tie.MeasureT-loop
 μ-loop start map words sum₀ i₀ sum i = 41 - i
 
 abbrev Inv-loop2 : tie.InvT-loop2
-Inv-loop2 start map sum₀ i k₀ sum k = k ≤ 33
+Inv-loop2 start map sum₀ i n k₀ sum k = (k ≤ n) × (n ≤ 33)
 
 abbrev μ-loop2 : tie.MeasureT-loop2
-μ-loop2 start map sum₀ i k₀ sum k = 33 - k
+μ-loop2 start map sum₀ i n k₀ sum k = n - k
 
 pub left-by-spec : {M : Type 1} → statement M
 left-by-spec =
@@ -32,6 +32,7 @@ left-by-spec =
     (λ c. search needs)
     (λ c. search needs)
     (λ c. search needs)
+    (λ c κs. search needs)
     (λ c κs. search needs)
     (λ c. search needs)
     (λ c. search needs)

@@ -1,6 +1,7 @@
 use Rattle.trace.proofs.Reading.{record-judged, record-short}
 use Rattle.trace.specs.declared.Record.the-variants.{Words, Broken}
 use Rattle.trace.specs.Records.{readRecord}
+use Rattle.lines.specs.Lines.{bytesOf}
 use mathlib.Core.Bool.{cond, _&&_}
 use mathlib.Core.Path.{_≡_, sym}
 use borrow.Author.Needs.{needs}
@@ -15,6 +16,7 @@ judged : (c : tie.After-struct-known3) →
     cond ((s .read-line .result .ok && a .read-line2 .result .ok) && b .read-line3 .result .ok)
     (Words (s .read-line .result .word) (a .read-line2 .result .word) (b .read-line3 .result .word)) Broken
     ≡ readRecord (s .before .before .before .before .args .text .now)
+unfolding bytesOf
 judged c =
     let b = c .before .before .before in
     let a = b .before .before in

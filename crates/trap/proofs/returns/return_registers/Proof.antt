@@ -5,7 +5,7 @@ use Rattle.trap.proofs.returns.return_registers.Tie as tie
 
 returns : tie.Need-returns
 unfolding returned
-returns c = cc
+returns c = rw (c .returned-status .ensures, c .before .previous-mode .ensures, c .before .before .level-registers .ensures)
 
 pub return-registers-spec : {M : Type 1} → statement M
 return-registers-spec =

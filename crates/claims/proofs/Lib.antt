@@ -1,0 +1,7 @@
+-- The claims, proved.
+pub mod RefusalLaws
+pub mod StepKeeping
+pub mod Texts
+pub mod Faithfulness
+pub mod AfterRun
+pub mod Worked

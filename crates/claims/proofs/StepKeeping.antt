@@ -1,0 +1,38 @@
+-- What every step keeps, and the rule of its map. Assumes nothing.
+use mathlib.Core.Path.{_≡_, refl}
+use mathlib.Core.Bool.{false}
+use Rattle.bits.proofs.Conjunction.{not-true-false}
+use Rattle.steps.specs.declared.Step.{Step}
+use Rattle.steps.specs.declared.Step.the-variants.{Reset}
+use Rattle.protection.specs.Same.{samePmp}
+use Rattle.protection.proofs.SameLaws.{same-pmp, same-pmp-refl}
+use Rattle.map.specs.declared.Map.{Map}
+use Rattle.engine.specs.Effects.{isReset, stepRule}
+use Rattle.engine.proofs.Holds.{rule-holds}
+use Rattle.hart.specs.declared.Hart.{Hart}
+use Rattle.hart.specs.Steps.{mapFor, resetDone, stepped}
+use Rattle.claims.specs.Keeps.{StepKeeps}
+
+reset-given : (h : Hart) (map : Map) → stepped h map Reset ≡ resetDone
+unfolding stepped
+reset-given h map = refl
+
+module _ (h : Hart) (map : Map) (step : Step) (other : isReset step ≡ false) where
+  map-kept : h .state .pmp ≡ stepRule (h .state) step .state .pmp → stepped h map step .map ≡ map
+  unfolding stepped
+  map-kept p = rw (other, ← p, same-pmp-refl (h .state .pmp))
+
+  map-anew : (h .state .pmp ≡ stepRule (h .state) step .state .pmp → ⊥) → stepped h map step .map ≡ mapFor (stepRule (h .state) step .state .pmp)
+  unfolding stepped
+  map-anew z =
+      let after = stepRule (h .state) step .state .pmp in
+      rw (other, not-true-false (samePmp (h .state .pmp) after) (λ q. z (same-pmp (h .state .pmp) after q)))
+
+pub step-keeps : StepKeeps
+step-keeps =
+    record {
+      holdable = λ s step p. rule-holds s p step;
+      reset = reset-given;
+      map-kept = map-kept;
+      map-anew = map-anew;
+    }

@@ -1,0 +1,84 @@
+-- 01, "What has to be nailed": demand 3, one claim about the whole list of steps.
+use Prim.Native.Nat.{ℕ, _≤_}
+use mathlib.Core.Path.{_≡_}
+use mathlib.Core.Bool.{true}
+use mathlib.Core.Logic.{_⊎_}
+use mathlib.Core.List.{List}
+use lib.ListN.{take}
+use Rattle.pmp.specs.declared.Mode.{Mode}
+use Rattle.pmp.specs.declared.Access.{Access}
+use Rattle.pmp.specs.declared.Decision.{Decision}
+use Rattle.pmp.specs.declared.Decision.the-variants.{Refused}
+use Rattle.pmp.specs.Rule.{isSize, byteRule}
+use Rattle.steps.specs.declared.Step.{Step}
+use Rattle.steps.specs.declared.Answer.the-variants.{Done}
+use Rattle.protection.specs.declared.Pmp.{Pmp}
+use Rattle.state.specs.Hold.{canHold}
+use Rattle.map.specs.declared.Map.{Map}
+use Rattle.map.specs.declared.Range.{Range}
+use Rattle.map.specs.Lookup.{findRange, rangesIn}
+use Rattle.map.specs.Ranges.{IsMap}
+use Rattle.map.specs.Painting.{rangesOf}
+use Rattle.engine.specs.Runs.{afterAll}
+use Rattle.hart.specs.declared.Hart.{Hart}
+use Rattle.hart.specs.declared.Mapped.{Mapped}
+use Rattle.hart.specs.Steps.{handedBack, resetMapped}
+use Rattle.hart.specs.Queries.{queryAnswer}
+use Rattle.hart.specs.Runs.{leftBy}
+use Rattle.hart.specs.Saved.{restored}
+
+-- the state and map that reading a text back gives, whatever hart and map went in
+pub record FromText (start : Mapped) : Type 0 where
+  pub text : List ℕ
+  pub hart : Hart
+  pub map : Map
+  pub read : restored hart map text ≡ handedBack (start .hart) (start .map) Done
+
+-- a run starts from the reset state and reset map, or from what reading a text back gives
+abbrev pub Start : Mapped → Type 0
+Start start = (start ≡ resetMapped) ⊎ FromText start
+
+-- the hart and map that the steps leave
+abbrev pub left : Mapped → List Step → Mapped
+left start steps = leftBy (start .hart) (start .map) steps
+
+-- the protection registers that the step rules and the refusal table make of a start and the steps, with no map read
+abbrev pub pmpAfter : Mapped → List Step → Pmp
+pmpAfter start steps = afterAll (start .hart .state) steps .pmp
+
+-- what a query on the hart and map left answers
+abbrev pub queryAfter : Mapped → List Step → Mode → Access → ℕ → ℕ → Decision
+queryAfter start steps mode access address size = queryAnswer (left start steps .hart) (left start steps .map) mode access address size
+
+-- the claim for one start and one list of steps
+pub record FaithfulAfter (start : Mapped) (steps : List Step) : Type 0 where
+  -- the state left is the one that the step rules and the refusal table make
+  pub state : left start steps .hart .state ≡ afterAll (start .hart .state) steps
+  -- the map left, up to its count, is a list of ranges as 01 lays it down for these registers, the computed one, and at most 33
+  pub lawful :
+      IsMap (pmpAfter start steps .cfgs) (pmpAfter start steps .addrs) (take (left start steps .map .count) (left start steps .map .ranges))
+  pub ranges :
+      take (left start steps .map .count) (left start steps .map .ranges) ≡ rangesOf (pmpAfter start steps .cfgs) (pmpAfter start steps .addrs)
+  pub count : left start steps .map .count ≤ 33
+  -- every query gets the byte rule's answer, same grant, same cause, and no refusal
+  pub answers : (mode : Mode) (access : Access) (address size : ℕ) → isSize size ≡ true
+      → queryAfter start steps mode access address size
+      ≡ byteRule (pmpAfter start steps .cfgs) (pmpAfter start steps .addrs) mode access address size
+  pub unrefused : (mode : Mode) (access : Access) (address size number : ℕ) → isSize size ≡ true
+      → queryAfter start steps mode access address size ≡ Refused number → ⊥
+
+-- the one-range clause: any two maps, any two states a hart can hold; the PMP bytes, effective mode, kind, address and size are equal, and
+-- the lowest-numbered range holding the first byte is the same in both maps, or missing in both
+abbrev pub OneRange : Type 0
+OneRange =
+    (g h : Hart) (m n : Map) (mode : Mode) (access : Access) (address size : ℕ)
+    → canHold (g .state) ≡ true → canHold (h .state) ≡ true → g .state .pmp .cfgs ≡ h .state .pmp .cfgs
+    → findRange (rangesIn m) address ≡ findRange (rangesIn n) address
+    → queryAnswer g m mode access address size ≡ queryAnswer h n mode access address size
+
+-- demand 3
+pub record Faithful : Type 0 where
+  pub after : (start : Mapped) → Start start → (steps : List Step) → FaithfulAfter start steps
+  -- there is one such list
+  pub one-map : (cfgs addrs : List ℕ) (ranges others : List Range) → IsMap cfgs addrs ranges → IsMap cfgs addrs others → ranges ≡ others
+  pub one-range : OneRange

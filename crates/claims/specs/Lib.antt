@@ -1,0 +1,7 @@
+-- What is claimed of the whole hart: demands 2 and 3, the table of refusals, the worked settings.
+pub mod Refusals
+pub mod Keeps
+pub mod Texts
+pub mod Faithful
+pub mod AfterRun
+pub mod Worked

@@ -1,0 +1,117 @@
+-- 01, "Hand-checked settings": W1 to W12 as one table.
+use Prim.Native.Nat.{ℕ, zero, suc, _+_, _-_, _*_, _^_}
+use mathlib.Core.Path.{_≡_}
+use mathlib.Core.List.{List, [], _∷_}
+use lib.ListN.{length, replicate}
+use Rattle.pmp.specs.declared.Mode.{Mode}
+use Rattle.pmp.specs.declared.Access.{Access}
+use Rattle.pmp.specs.declared.Decision.the-variants.{Fault}
+use Rattle.pmp.specs.Number.{faultCause}
+use Rattle.pmp.specs.Entry.{entries, entrySpan}
+use Rattle.pmp.specs.Rule.{checked, none}
+use Rattle.steps.specs.declared.Event.the-variants.{Mret, TakeInterrupt, Elapsed}
+use Rattle.steps.specs.declared.Step.{Step}
+use Rattle.steps.specs.declared.Step.the-variants.{Event as EventStep}
+use Rattle.registers.specs.declared.Registers.{Registers}
+use Rattle.registers.specs.Hold.{resetRegisters}
+use Rattle.registers.specs.Update.{withStatus, withCounters}
+use Rattle.protection.specs.Hold.{resetPmp}
+use Rattle.map.specs.declared.Range.{Range}
+use Rattle.map.specs.Ranges.{range}
+use Rattle.map.specs.Painting.{rangesOf}
+use Rattle.engine.specs.Effects.{stepRule}
+
+pub data Setting : Type 0 where
+  -- entry 0 alone: an access of `size` bytes faults in every mode, whatever its kind
+  faults : (cfg addr address size : ℕ) → Setting
+  -- entry 0 alone matches the bytes from first to last
+  covers : (cfg addr first last : ℕ) → Setting
+  -- sixteen entries have this map
+  mapped : (cfgs addrs : List ℕ) → List Range → Setting
+  -- sixteen entries have this many ranges
+  counted : (cfgs addrs : List ℕ) → ℕ → Setting
+  -- after the step a register has this value
+  leaves : Registers → Step → (Registers → ℕ) → ℕ → Setting
+
+-- entry 0's register, and the others 0
+abbrev pub alone : ℕ → List ℕ
+alone x = x ∷ replicate 15 0
+
+-- what a setting says
+abbrev pub Right : Setting → Type 0
+Right (faults cfg addr address size) =
+    (mode : Mode) (access : Access) → checked (alone cfg) (alone addr) mode access address size ≡ Fault (faultCause access)
+Right (covers cfg addr first last) = entrySpan (alone cfg) (alone addr) 0 ≡ record { low = first; high = last + 1 }
+Right (mapped cfgs addrs ranges) = rangesOf cfgs addrs ≡ ranges
+Right (counted cfgs addrs n) = length (rangesOf cfgs addrs) ≡ n
+Right (leaves r step register value) = register (stepRule (record { registers = r; pmp = resetPmp }) step .state .registers) ≡ value
+
+abbrev pub AllRight : List Setting → Type 0
+AllRight [] = Unit {0}
+AllRight (s ∷ settings) = Right s × AllRight settings
+
+-- configuration bytes with R, W and X
+abbrev pub tor : ℕ
+tor = 0x0F
+
+abbrev pub na4 : ℕ
+na4 = 0x17
+
+abbrev pub napot : ℕ
+napot = 0x1F
+
+-- 1, 3, .. 31
+abbrev pub odd : List ℕ
+odd = 1 ∷ 3 ∷ 5 ∷ 7 ∷ 9 ∷ 11 ∷ 13 ∷ 15 ∷ 17 ∷ 19 ∷ 21 ∷ 23 ∷ 25 ∷ 27 ∷ 29 ∷ 31 ∷ []
+
+-- from entry i on, n times four bytes without an owner and four of an entry, and the rest of memory: 2 * n + 1 ranges
+abbrev pub alternating : ℕ → ℕ → List Range
+alternating zero i = range (8 * i) (2 ^ 56 - 1) none ∷ []
+alternating (suc n) i = range (8 * i) (8 * i + 3) none ∷ range (8 * i + 4) (8 * i + 7) i ∷ alternating n (suc i)
+
+-- in M with MIE=1, interrupt 7 pending and enabled
+abbrev pub interrupted : ℕ → Registers
+interrupted mtvec =
+    record {
+      mode = 3;
+      pc = 0x1000;
+      mstatus = 0xA00000008;
+      medeleg = 0;
+      interrupts = record { mideleg = 0; mie = 0x80; mip = 0; lines = 0x80 };
+      counters = resetRegisters .counters;
+      machine = record { tvec = mtvec; counteren = 0; scratch = 0; epc = 0; cause = 0; tval = 0 };
+      supervisor = resetRegisters .supervisor;
+    }
+
+-- mcycle alone set
+abbrev pub cycling : ℕ → Registers
+cycling mcycle = withCounters resetRegisters 0 mcycle 0
+
+-- the table
+abbrev pub settings : List Setting
+settings =
+    -- W1
+    faults na4 3 0x8 8
+    -- W2 to W6
+    ∷ covers napot 0 0 7
+    ∷ covers napot 0x20000FFF 0x80000000 0x80007FFF
+    ∷ covers napot (2 ^ 52 - 1) 0 (2 ^ 55 - 1)
+    ∷ covers napot (2 ^ 53 - 1) 0 (2 ^ 56 - 1)
+    ∷ covers napot (2 ^ 54 - 1) 0 (2 ^ 56 - 1)
+    ∷ covers tor (2 ^ 54 - 1) 0 (2 ^ 56 - 5)
+    -- W7 to W9
+    ∷ mapped (resetPmp .cfgs) (resetPmp .addrs) (range 0 (2 ^ 56 - 1) none ∷ [])
+    ∷ mapped (na4 ∷ napot ∷ replicate 14 0) (3 ∷ 0x1FF ∷ replicate 14 0)
+    (range 0 0xB 1 ∷ range 0xC 0xF 0 ∷ range 0x10 0xFFF 1 ∷ range 0x1000 (2 ^ 56 - 1) none ∷ [])
+    ∷ mapped (replicate entries na4) odd (alternating entries 0)
+    ∷ counted (replicate entries na4) odd 33
+    -- W10
+    ∷ leaves (withStatus resetRegisters 0xA00020880) (EventStep Mret) (λ r. r .mstatus) 0xA00000088
+    ∷ leaves (withStatus resetRegisters 0xA00020880) (EventStep Mret) (λ r. r .mode) 1
+    -- W11
+    ∷ leaves (interrupted 0x80000001) (EventStep TakeInterrupt) (λ r. r .pc) 0x8000001C
+    ∷ leaves (interrupted (2 ^ 64 - 4 + 1)) (EventStep TakeInterrupt) (λ r. r .pc) 0x18
+    -- W12
+    ∷ leaves (cycling (2 ^ 64 - 1)) (EventStep (Elapsed 1 0)) (λ r. r .counters .mcycle) 0
+    ∷ leaves (cycling 0) (EventStep (Elapsed 70000 0)) (λ r. r .counters .mcycle) 70000
+    ∷ []

@@ -1,0 +1,79 @@
+// A query after a whole run. The contracts name no map: they are demand 3, said of the program.
+use hart::Hart;
+use map::Map;
+use pmp::Access;
+use pmp::Decision;
+use pmp::Mode;
+ghost use mathlib.Core.Path.{_≡_};
+ghost use Rattle.state.specs.Hold.{resetState};
+ghost use Rattle.hart.specs.Runs.{with};
+ghost use Rattle.claims.specs.Faithful.{queryAfter};
+ghost use Rattle.claims.specs.AfterRun.{stepsIn, ruleAfter, ruleFromText};
+
+// Runs the steps, three numbers each, and asks. The map is compiled where some step asked for it.
+fn query_after(
+    hart: Hart,
+    map: Map,
+    steps: &[u64],
+    mode: Mode,
+    access: Access,
+    address: u64,
+    size: u64,
+) -> Decision
+    ensures { λ r. ⌜ r ≡ queryAfter (with hart map) (stepsIn (now (steps .entry))) mode access address size ⌝ }
+{
+    let state = hart.state;
+    let mut words = state::to_words(state);
+    let mut answers = [0u64; 1];
+    let remap = engine::run(&mut words, steps, &mut answers);
+    let after = state::of_words(words);
+    let left = Hart { state: after };
+    if !remap {
+        return left.query(map, mode, access, address, size);
+    }
+    let changed = after.pmp;
+    let fresh = hart::map_for(changed);
+    left.query(fresh, mode, access, address, size)
+}
+
+// A query after a run from reset.
+pub fn query_from_reset(
+    steps: &[u64],
+    mode: Mode,
+    access: Access,
+    address: u64,
+    size: u64,
+) -> Decision
+    ensures { λ r. ⌜ r ≡ ruleAfter resetState (stepsIn (now (steps .entry))) mode access address size ⌝ }
+{
+    let start = Hart::reset();
+    let hart = start.hart;
+    let map = start.map;
+    query_after(hart, map, steps, mode, access, address, size)
+}
+
+// A query after a run from a saved text. A refused text answers with its refusal.
+pub fn query_from_text(
+    text: &[u8],
+    steps: &[u64],
+    mode: Mode,
+    access: Access,
+    address: u64,
+    size: u64,
+) -> Decision
+    ensures { λ r. ⌜ r ≡ ruleFromText (now (text .entry)) (stepsIn (now (steps .entry))) mode access address size ⌝ }
+{
+    let start = Hart::reset();
+    let blank = start.hart;
+    let given = start.map;
+    let read = blank.restore(given, text);
+    let answer = read.answer;
+    let refusal = steps::refusal_of(answer);
+    if refusal == 0 {
+        let hart = read.hart;
+        let map = read.map;
+        query_after(hart, map, steps, mode, access, address, size)
+    } else {
+        Decision::Refused(refusal)
+    }
+}

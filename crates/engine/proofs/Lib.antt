@@ -1,0 +1,7 @@
+-- Laws of the step rule and of runs.
+pub mod EffectLaws
+pub mod Holds
+pub mod Plain
+pub mod InPlace
+pub mod TakingLaws
+pub mod RunLaws

@@ -1,0 +1,58 @@
+use mathlib.Core.Path.{refl}
+use Rattle.engine.proofs.InPlace.{access-does, fault-does}
+use borrow.Author.Needs.{needs}
+use Rattle.engine.proofs.access.access_at.Statement.{statement}
+use Rattle.engine.proofs.access.access_at.Tie as tie
+
+returns : tie.Need-returns
+returns c =
+    let k = c .before .before in
+    let m = k .before in
+    let p = m .before .before .before in
+    let r = p .before .before in
+    let b = r .before .before .before in
+    let a = b .args in
+    access-does (a .words .now) (b .pre) (a .access) (a .address) (a .size) (r .load-registers .ensures) (p .load-pmp .ensures) (m .effective-mode .ensures) (k .check .ensures) (c .enum-told .given .1) (refl, refl)
+
+returns-2 : tie.Need-returns-2
+returns-2 c =
+    let t = c .before .before in
+    let o = t .before .before in
+    let q = o .before .before in
+    let k = q .before .before in
+    let m = k .before in
+    let p = m .before .before .before in
+    let r = p .before .before in
+    let b = r .before .before .before in
+    let a = b .args in
+    fault-does (a .words .now) (b .pre) (a .access) (a .address) (a .size) (r .load-registers .ensures) (p .load-pmp .ensures) (m .effective-mode .ensures) (k .check .ensures) (q .cause .given .1) (o .raise .ensures) (t .leave .ensures .0) (t .leave .ensures .1)
+
+returns-3 : tie.Need-returns-3
+returns-3 c =
+    let k = c .before .before .before in
+    let m = k .before in
+    let p = m .before .before .before in
+    let r = p .before .before in
+    let b = r .before .before .before in
+    let a = b .args in
+    access-does (a .words .now) (b .pre) (a .access) (a .address) (a .size) (r .load-registers .ensures) (p .load-pmp .ensures) (m .effective-mode .ensures) (k .check .ensures) (c .before .number .given .1) (refl, refl)
+
+pub access-at-spec : {M : Type 1} → statement M
+access-at-spec =
+    tie.close
+    (tie.spec
+    (λ c κs. search needs)
+    (λ c κs. search needs)
+    (λ c κs. search needs)
+    (λ c κs. search needs)
+    (λ c. search needs)
+    (λ c. search needs)
+    (λ c κs. search needs)
+    (λ c κs. search needs)
+    (λ c. search needs)
+    (λ c. search needs)
+    returns
+    (λ c. search needs)
+    returns-2
+    (λ c. search needs)
+    returns-3)

@@ -1,0 +1,146 @@
+use Prim.Native.Nat.{_+_, _-_, _^_, _≤_, _<_}
+use mathlib.Core.Path.{_≡_, refl, sym, ap, _∙_}
+use mathlib.Core.Bool.{true, _||_}
+use native.Mathlib.Omega.{arith}
+use lib.ListN.{length, getD, drop}
+use lib.Seq.{sets, length-sets}
+use borrow.Author.Needs.{needs}
+use Rattle.steps.specs.Number.{answerNumbers}
+use Rattle.steps.specs.Decode.{decoded, stepsOf, nameSteps}
+use Rattle.steps.proofs.NumberLaws.{Named, named}
+use Rattle.state.specs.Hold.{canHold}
+use Rattle.state.specs.Words.{stateOf}
+use Rattle.state.proofs.SliceLaws.{all-loaded}
+use Rattle.engine.specs.Runs.{afterAll, answersOf, anyRemaps}
+use Rattle.engine.proofs.RunLaws.{named-plain, held-next, state-next, remap-next, answers-next, state-end, remap-end, answers-end}
+use Rattle.engine.proofs.runs.run_steps.Statement.{statement}
+use Rattle.engine.proofs.runs.run_steps.Tie as tie
+
+abbrev Inv-loop : tie.InvT-loop
+Inv-loop words₀ steps answers₀ held₀ remap₀ i₀ words answers held remap i =
+    (i ≤ length steps) × (length words ≡ 41) × (length answers ≡ length answers₀) × (nameSteps (drop i steps) ≡ true) × (held ≡ canHold (stateOf words))
+    × (afterAll (stateOf words) (stepsOf (drop i steps)) ≡ afterAll (stateOf words₀) (stepsOf steps))
+    × ((remap || anyRemaps (stateOf words) (stepsOf (drop i steps))) ≡ anyRemaps (stateOf words₀) (stepsOf steps))
+    × (sets answers i (answersOf (stateOf words) (stepsOf (drop i steps))) ≡ sets answers₀ 0 (answersOf (stateOf words₀) (stepsOf steps)))
+
+abbrev μ-loop : tie.MeasureT-loop
+μ-loop words₀ steps answers₀ held₀ remap₀ i₀ words answers held remap i = length steps - i
+
+abbrev start : tie.At-loop Inv-loop μ-loop → tie.Start Inv-loop μ-loop
+start c = c .before .before .before .before .before .before .before
+
+loop-holds : tie.Need-loop-holds Inv-loop μ-loop
+loop-holds c =
+    let b = c .before .before .before .before .before .before in
+    let p = b .pre in
+    (search needs, p .0, refl, p .1, c .can-hold .ensures ∙ ap canHold (c .before .load .ensures ∙ all-loaded (b .args .words .now) (p .0)), refl, refl, refl)
+
+-- the step at i
+at : (c : tie.In-loop Inv-loop μ-loop) → Named (start (c .before) .args .steps .now) (c .before .loop .i)
+at c = named (start (c .before) .args .steps .now) (c .before .loop .i) (c .loop-test .taken) (c .before .loop .inv .3)
+
+-- a slice's length is a number of 64 bits
+short : (c : tie.In-loop Inv-loop μ-loop) → length (start (c .before) .args .steps .now) < 2 ^ 64
+short c = omega arith
+
+add-take-named : tie.Need-add-take-named Inv-loop μ-loop
+add-take-named c = omega (arith, at (c .before .before) .room)
+
+mul-take-named-2 : tie.Need-mul-take-named-2 Inv-loop μ-loop
+mul-take-named-2 c = omega (arith, at (c .before .before) .room)
+
+shared-slice-read-take-named-2 : tie.Need-shared-slice-read-take-named-2 Inv-loop μ-loop
+shared-slice-read-take-named-2 c = omega (arith, at (c .before .before .before) .room)
+
+add-take-named-2 : tie.Need-add-take-named-2 Inv-loop μ-loop
+add-take-named-2 c = omega (arith, at (c .before .before .before) .room)
+
+mul-take-named-3 : tie.Need-mul-take-named-3 Inv-loop μ-loop
+mul-take-named-3 c = omega (arith, at (c .before .before .before) .room)
+
+shared-slice-read-take-named-3 : tie.Need-shared-slice-read-take-named-3 Inv-loop μ-loop
+shared-slice-read-take-named-3 c = omega (arith, at (c .before .before .before .before) .room)
+
+take-named-requires : tie.Need-take-named-requires Inv-loop μ-loop
+take-named-requires c κs = c .before .before .before .before .before .loop .inv .1
+
+-- the step of this turn, and where the turn began
+abbrev turn : tie.After-put-answer-arg Inv-loop μ-loop → tie.After-take-named Inv-loop μ-loop
+turn c = c .before .before .before
+
+abbrev inside : tie.After-take-named Inv-loop μ-loop → tie.In-loop Inv-loop μ-loop
+inside c = c .before .before .before .before .before
+
+put-answer-requires : tie.Need-put-answer-requires Inv-loop μ-loop
+put-answer-requires c κs =
+    let t = turn c in
+    let i = inside t in
+    let l = i .before .loop in
+    let v = start (i .before) .args .steps .now in (
+      named-plain (l .held) (stateOf (l .words)) (decoded (getD v (l .i) 0) (getD v (l .i + 1) 0) (getD v (l .i + 2) 0)) (t .take-named .ensures .0),
+      omega (arith, at i .room, short i),
+    )
+
+add-i : tie.Need-add-i Inv-loop μ-loop
+add-i c = let i = inside (turn (c .before .before .before .before)) in omega (arith, at i .room, short i)
+
+loop-less : tie.Need-loop-less Inv-loop μ-loop
+loop-less c = omega (arith, at (inside (turn (c .before .before .before .before))) .room)
+
+loop-again : tie.Need-loop-again Inv-loop μ-loop
+loop-again c =
+    let p = c .before .before .before in
+    let t = turn (p .before) in
+    let i = inside t in
+    let l = i .before .loop in
+    let v = start (i .before) .args .steps .now in
+    let s = stateOf (l .words) in
+    let n = at i in
+    let e = t .take-named .ensures .0 in
+    let f = t .take-named .ensures .1 in
+    let h = l .inv .4 in (
+      n .room,
+      search needs,
+      ap length (p .put-answer .ensures) ∙ length-sets (l .answers) (l .i) (answerNumbers (t .take-named .result .answer)) ∙ l .inv .2,
+      n .rest,
+      held-next v (l .i) (l .held) s _ (t .take-named .result) n h e f,
+      state-next v (l .i) (l .held) s _ (t .take-named .result) n h e f ∙ l .inv .5,
+      remap-next v (l .i) (l .held) s _ (t .take-named .result) n h e f (l .remap) ∙ l .inv .6,
+      answers-next v (l .i) (l .held) s _ (t .take-named .result) n h e f (l .answers) _ (p .put-answer .ensures) ∙ l .inv .7,
+    )
+
+returns : tie.Need-returns Inv-loop μ-loop
+returns c =
+    let l = c .before .loop in
+    let v = start (c .before) .args .steps .now in
+    let d = c .loop-test .left in
+    let s = stateOf (l .words) in (
+      remap-end v (l .i) s d (l .remap) ∙ l .inv .6,
+      (state-end v (l .i) s d ∙ l .inv .5, answers-end v (l .i) s d (l .answers) ∙ l .inv .7),
+    )
+
+pub run-steps-spec : {M : Type 1} → statement M
+run-steps-spec =
+    tie.close
+    (tie.spec
+    Inv-loop
+    μ-loop
+    (λ c κs. search needs)
+    (λ c κs. search needs)
+    loop-holds
+    (λ c. search needs)
+    (λ c. search needs)
+    add-take-named
+    mul-take-named-2
+    shared-slice-read-take-named-2
+    add-take-named-2
+    mul-take-named-3
+    shared-slice-read-take-named-3
+    take-named-requires
+    put-answer-requires
+    add-i
+    loop-less
+    loop-again
+    (λ c. search needs)
+    (λ c. c .before .loop .inv .2)
+    returns)

@@ -1,0 +1,4 @@
+-- The definitions that the contracts cite.
+pub mod Effects
+pub mod Taking
+pub mod Runs

@@ -1,0 +1,64 @@
+// The steps that concern the registers alone.
+use state::load_registers;
+use state::store_registers;
+use steps::Answer;
+use steps::Event;
+use steps::Level;
+use trap::Outcome;
+ghost use mathlib.Core.Path.{_≡_};
+ghost use lib.ListN.{length};
+ghost use Rattle.state.specs.Words.{stateOf};
+ghost use Rattle.engine.specs.Effects.{withRegisters, eventEffect};
+
+// Writes the registers that a step leaves.
+pub(crate) fn leave(outcome: Outcome, words: &mut [u64]) -> Answer
+    requires { ⌜ length (now words) ≡ 41 ⌝ }
+    ensures { λ r. ⌜ r ≡ outcome .answer ⌝ }
+    ensures { λ _. ⌜ stateOf (now (words .exit)) ≡ withRegisters (stateOf (now (words .entry))) (outcome .registers) ⌝ }
+{
+    let registers = outcome.registers;
+    store_registers(registers, words);
+    outcome.answer
+}
+
+// Each arm reads the registers for itself, so that it moves only those that it needs.
+pub(crate) fn step_event(words: &mut [u64], event: Event) -> Answer
+    requires { ⌜ length (now words) ≡ 41 ⌝ }
+    ensures { λ r. ⌜ r ≡ eventEffect (stateOf (now (words .entry))) event .answer ⌝ }
+    ensures { λ _. ⌜ stateOf (now (words .exit)) ≡ eventEffect (stateOf (now (words .entry))) event .state ⌝ }
+{
+    match event {
+        Event::Raise(cause, tval) => {
+            leave(
+                trap::enter::raise_step(load_registers(words), cause, tval),
+                words,
+            )
+        }
+        Event::Lines(lines) => leave(
+            trap::interrupt::lines_step(load_registers(words), lines),
+            words,
+        ),
+        Event::TakeInterrupt => leave(
+            trap::interrupt::take_interrupt(load_registers(words)),
+            words,
+        ),
+        Event::Mret => leave(
+            trap::returns::return_from(Level::Machine, load_registers(words)),
+            words,
+        ),
+        Event::Sret => leave(
+            trap::returns::return_from(Level::Supervisor, load_registers(words)),
+            words,
+        ),
+        Event::Wfi => leave(trap::returns::wait(load_registers(words)), words),
+        Event::Ecall => leave(trap::enter::environment_call(load_registers(words)), words),
+        Event::Ebreak => leave(trap::enter::breakpoint(load_registers(words)), words),
+        Event::Advance(target) => leave(trap::time::advance(load_registers(words), target), words),
+        Event::Elapsed(cycles, retired) => {
+            leave(
+                trap::time::elapse(load_registers(words), cycles, retired),
+                words,
+            )
+        }
+    }
+}

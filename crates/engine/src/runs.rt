@@ -1,0 +1,117 @@
+// A run of steps: the only loop over them.
+use crate::Taken;
+use crate::taking::take;
+use steps::Answer;
+use steps::Decoded;
+use steps::Trap;
+ghost use mathlib.Core.Path.{_≡_};
+ghost use mathlib.Core.Bool.{true, cond};
+ghost use Prim.Native.Nat.{_+_, _^_, _<_};
+ghost use lib.ListN.{length, set};
+ghost use lib.Seq.{sets};
+ghost use Rattle.steps.specs.Number.{causeNumber, interruptNumber, answerInterrupt, answerNumbers};
+ghost use Rattle.steps.specs.Decode.{decoded, stepsOf, nameSteps};
+ghost use Rattle.state.specs.Words.{stateOf};
+ghost use Rattle.engine.specs.Taking.{namedTaken, namedState};
+ghost use Rattle.engine.specs.Runs.{afterAll, anyRemaps, answersOf, ran};
+
+fn flag_number(flag: bool) -> u64
+    ensures { λ r. ⌜ r ≡ cond flag 1 0 ⌝ }
+{
+    if flag { 1 } else { 0 }
+}
+
+// No step answers with an interrupt, so that the sum does not wrap.
+fn cause_number(trap: Trap) -> u64
+    requires { ⌜ interruptNumber trap ≡ 0 ⌝ }
+    ensures { λ r. ⌜ r ≡ causeNumber trap ⌝ }
+{
+    match trap {
+        Trap::Exception(cause) => cause,
+        Trap::Interrupt(number) => 0x8000000000000000 + number,
+    }
+}
+
+fn answer_numbers(answer: Answer) -> [u64; 3]
+    requires { ⌜ answerInterrupt answer ≡ 0 ⌝ }
+    ensures { λ r. ⌜ r ≡ answerNumbers answer ⌝ }
+{
+    match answer {
+        Answer::Done => [0, 0, 0],
+        Answer::DoneValue(value) => [1, value, 0],
+        Answer::DoneFlag(flag) => [2, flag_number(flag), 0],
+        Answer::Granted => [3, 0, 0],
+        Answer::Trapped(trap, level) => [4, cause_number(trap), steps::level_number(level)],
+        Answer::Refused(number) => [5, number, 0],
+    }
+}
+
+// Stores a word where the slice has its place.
+fn put(words: &mut [u64], place: usize, word: u64)
+    ensures { λ _. ⌜ now (words .exit) ≡ set (now (words .entry)) place word ⌝ }
+{
+    if place < words.len() {
+        words[place] = word;
+    }
+}
+
+fn put_answer(answer: Answer, answers: &mut [u64], place: usize)
+    requires { ⌜ (answerInterrupt answer ≡ 0) × (place + 2 < 2 ^ 64) ⌝ }
+    ensures { λ _. ⌜ now (answers .exit) ≡ sets (now (answers .entry)) place (answerNumbers answer) ⌝ }
+{
+    let numbers = answer_numbers(answer);
+    put(answers, place, numbers[0]);
+    put(answers, place + 1, numbers[1]);
+    put(answers, place + 2, numbers[2]);
+}
+
+// The step that three numbers name.
+fn take_named(words: &mut [u64], held: bool, number: u64, a: u64, b: u64) -> Taken
+    requires { ⌜ length (now words) ≡ 41 ⌝ }
+    ensures { λ r. ⌜ r ≡ namedTaken held (stateOf (now (words .entry))) (decoded number a b) ⌝ }
+    ensures { λ _. ⌜ stateOf (now (words .exit)) ≡ namedState held (stateOf (now (words .entry))) (decoded number a b) ⌝ }
+{
+    match steps::decode(number, a, b) {
+        Decoded::Formed(step) => take(words, held, step),
+        Decoded::Nothing => Taken {
+            answer: Answer::Done,
+            held,
+            remap: false,
+        },
+    }
+}
+
+// All steps in order, each given what the one before left. Gives whether the map has to be compiled anew.
+fn run_steps(words: &mut [u64], steps: &[u64], answers: &mut [u64]) -> bool
+    requires { ⌜ (length (now words) ≡ 41) × (nameSteps (now steps) ≡ true) ⌝ }
+    ensures { λ r. ⌜ r ≡ anyRemaps (stateOf (now (words .entry))) (stepsOf (now (steps .entry))) ⌝ }
+    ensures { λ _. ⌜ stateOf (now (words .exit)) ≡ afterAll (stateOf (now (words .entry))) (stepsOf (now (steps .entry))) ⌝ }
+    ensures { λ _. ⌜ now (answers .exit) ≡ sets (now (answers .entry)) 0 (answersOf (stateOf (now (words .entry))) (stepsOf (now (steps .entry)))) ⌝ }
+{
+    let mut held = state::can_hold(state::load(words));
+    let mut remap = false;
+    let mut i: usize = 0;
+    while i < steps.len() {
+        let next = take_named(words, held, steps[i], steps[i + 1], steps[i + 2]);
+        let answer = next.answer;
+        put_answer(answer, answers, i);
+        held = next.held;
+        remap = remap | next.remap;
+        i += 3;
+    }
+    remap
+}
+
+// Runs the steps that the numbers name, three for each, on the words of a hart, and writes their answers from the front of a slice, as far as it
+// goes. Gives whether the map has to be compiled anew. Where the words are not 41, or three numbers name no step, nothing is done.
+pub fn run(words: &mut [u64], steps: &[u64], answers: &mut [u64]) -> bool
+    ensures { λ r. ⌜ r ≡ ran (now (words .entry)) (now (steps .entry)) (now (answers .entry)) .remap ⌝ }
+    ensures { λ _. ⌜ now (words .exit) ≡ ran (now (words .entry)) (now (steps .entry)) (now (answers .entry)) .words ⌝ }
+    ensures { λ _. ⌜ now (answers .exit) ≡ ran (now (words .entry)) (now (steps .entry)) (now (answers .entry)) .answers ⌝ }
+    ensures { λ _. ⌜ stateOf (now (words .exit)) ≡ ran (now (words .entry)) (now (steps .entry)) (now (answers .entry)) .state ⌝ }
+{
+    if !((words.len() == 41) & steps::name_steps(steps)) {
+        return false;
+    }
+    run_steps(words, steps, answers)
+}

@@ -1,0 +1,63 @@
+// The eighteen steps.
+use crate::Hart;
+use crate::Mapped;
+use crate::Stepped;
+use map::Map;
+use protection::Pmp;
+use steps::Step;
+ghost use mathlib.Core.Path.{_≡_};
+ghost use Rattle.state.specs.Hold.{canHold};
+ghost use Rattle.hart.specs.Steps.{mapFor, resetMapped, stepped};
+
+// The map of protection registers.
+pub fn map_for(pmp: Pmp) -> Map
+    ensures { λ r. ⌜ r ≡ mapFor pmp ⌝ }
+{
+    let cfgs = pmp.cfgs;
+    let addrs = pmp.addrs;
+    map::compile(cfgs, addrs)
+}
+
+impl Hart {
+    // Whether a hart can hold this state.
+    pub fn can_hold(self) -> bool
+        ensures { λ r. ⌜ r ≡ canHold (self .state) ⌝ }
+    {
+        let state = self.state;
+        state::can_hold(state)
+    }
+
+    // The reset state with its map.
+    pub fn reset() -> Mapped
+        ensures { λ r. ⌜ r ≡ resetMapped ⌝ }
+    {
+        let state = state::reset();
+        let pmp = state.pmp;
+        let map = map_for(pmp);
+        let hart = Hart { state };
+        Mapped { hart, map }
+    }
+
+    // One step: what 01's "Steps" says of it. A refusal hands back hart and map as they were.
+    pub fn step(self, map: Map, step: Step) -> Stepped
+        ensures { λ r. ⌜ r ≡ stepped self map step ⌝ }
+    {
+        let state = self.state;
+        let held = state::can_hold(state);
+        let mut words = state::to_words(state);
+        let taken = engine::step(&mut words, held, step);
+        let answer = taken.answer;
+        let after = state::of_words(words);
+        let hart = Hart { state: after };
+        if !taken.remap {
+            return Stepped { hart, map, answer };
+        }
+        let changed = after.pmp;
+        let fresh = map_for(changed);
+        Stepped {
+            hart,
+            map: fresh,
+            answer,
+        }
+    }
+}

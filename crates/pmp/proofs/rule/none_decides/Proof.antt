@@ -1,0 +1,25 @@
+-- `pmp::rule::none_decides` meets its contract. Assumes nothing.
+use mathlib.Core.Path.{ap}
+use borrow.Author.Needs.{needs}
+use Rattle.pmp.specs.declared.Decision.the-variants.{Fault}
+use Rattle.pmp.proofs.rule.none_decides.Statement.{statement}
+use Rattle.pmp.proofs.rule.none_decides.Tie as tie
+
+returns : tie.Need-returns
+returns c = rw (c .before .enum-told .given .1) (ap Fault (c .fault-cause .ensures))
+
+returns-2 : tie.Need-returns-2
+returns-2 c = rw (c .before .enum-told2 .given .1) (ap Fault (c .fault-cause2 .ensures))
+
+pub none-decides-spec : {M : Type 1} → statement M
+none-decides-spec =
+    tie.close
+    (tie.spec
+    (λ c. search needs)
+    (λ c κs. search needs)
+    (λ c. search needs)
+    (λ c κs. search needs)
+    (λ c. search needs)
+    returns
+    returns-2
+    (λ c. search needs))

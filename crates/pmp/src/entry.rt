@@ -1,0 +1,98 @@
+// The bytes that an entry matches, and its lock.
+use crate::Span;
+use crate::TOP;
+ghost use mathlib.Core.Path.{_≡_};
+ghost use Prim.Native.Nat.{_*_, _<_, min};
+ghost use Rattle.pmp.specs.Entry.{top, trailingOnes, napot, spanOf, fieldA, locked, entrySpan, contains};
+
+// 2^54: the first word past physical memory.
+const TOP_WORD: u64 = 0x40000000000000;
+
+// The number of ones at the low end of a word.
+pub fn trailing_ones(word: u64) -> u32
+    ensures { λ r. ⌜ r ≡ trailingOnes 64 word ⌝ }
+{
+    u64::trailing_zeros(!word)
+}
+
+// The first byte of a word, cut at the end of memory.
+fn word_start(word: u64) -> u64
+    ensures { λ r. ⌜ r ≡ min (4 * word) top ⌝ }
+{
+    if word < TOP_WORD { word * 4 } else { TOP }
+}
+
+// The naturally aligned power of two bytes that an address register names. Its size is tested before it is formed, so that no sum wraps.
+fn napot_span(addr: u64) -> Span
+    ensures { λ r. ⌜ r ≡ napot addr (trailingOnes 64 addr) ⌝ }
+{
+    let t = trailing_ones(addr);
+    if t < 64 {
+        let power = 1u64 << t;
+        let low = word_start(addr - (power - 1));
+        if t < 53 {
+            let high = low + power * 8;
+            if high < TOP {
+                Span { low, high }
+            } else {
+                Span { low, high: TOP }
+            }
+        } else {
+            Span { low, high: TOP }
+        }
+    } else {
+        Span { low: 0, high: TOP }
+    }
+}
+
+// The bytes that an entry matches, from its configuration byte, its address register and the one before.
+pub fn entry_span(cfg: u8, addr: u64, before: u64) -> Span
+    ensures { λ r. ⌜ r ≡ spanOf (fieldA cfg) addr before ⌝ }
+{
+    let a = cfg / 8 % 4;
+    match a {
+        0 => Span { low: 0, high: 0 },
+        1 => Span {
+            low: word_start(before),
+            high: word_start(addr),
+        },
+        2 => {
+            let low = word_start(addr);
+            if low < TOP {
+                Span { low, high: low + 4 }
+            } else {
+                Span { low, high: TOP }
+            }
+        }
+        _ => napot_span(addr),
+    }
+}
+
+// The bytes that entry number `entry` matches. Entry 0 has no register before its own: 0 stands for it.
+pub(crate) fn span_at(cfgs: [u8; 16], addrs: [u64; 16], entry: usize) -> Span
+    requires { ⌜ entry < 16 ⌝ }
+    ensures { λ r. ⌜ r ≡ entrySpan cfgs addrs entry ⌝ }
+{
+    let cfg = cfgs[entry];
+    let addr = addrs[entry];
+    if entry == 0 {
+        entry_span(cfg, addr, 0)
+    } else {
+        let before = addrs[entry - 1];
+        entry_span(cfg, addr, before)
+    }
+}
+
+// Whether a byte lies in the span.
+pub(crate) fn contains(span: Span, byte: u64) -> bool
+    ensures { λ r. ⌜ r ≡ contains span byte ⌝ }
+{
+    span.low <= byte && byte < span.high
+}
+
+// Whether a configuration byte is locked.
+pub fn is_locked(cfg: u8) -> bool
+    ensures { λ r. ⌜ r ≡ locked cfg ⌝ }
+{
+    cfg / 128 == 1
+}

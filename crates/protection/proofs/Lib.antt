@@ -1,0 +1,7 @@
+-- The laws that the proofs and the crates above cite.
+pub mod ConfigLoops
+pub mod Packing
+pub mod Held
+pub mod WriteLoop
+pub mod WriteKept
+pub mod SameLaws

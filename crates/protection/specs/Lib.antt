@@ -1,0 +1,7 @@
+-- The definitions that the contracts cite.
+pub mod Arrays
+pub mod Configs
+pub mod Hold
+pub mod Read
+pub mod Write
+pub mod Same

@@ -1,0 +1,73 @@
+// What a hart can hold, and what reset gives. These tests run at every step and do not branch.
+use crate::Pmp;
+ghost use mathlib.Core.Path.{_≡_};
+ghost use mathlib.Core.Bool.{_&&_};
+ghost use Rattle.bits.specs.Lists.{all};
+ghost use Rattle.bits.specs.Same.{sameList};
+ghost use Rattle.protection.specs.Arrays.{Arrays};
+ghost use Rattle.protection.specs.Hold.{configHoldable, addressHoldable, pmpHoldable, resetPmp};
+ghost use Rattle.protection.specs.Same.{samePmp};
+
+fn arrays_can_hold(cfgs: [u8; 16], addrs: [u64; 16]) -> bool
+    ensures { λ r. ⌜ r ≡ (all configHoldable cfgs && all addressHoldable addrs) ⌝ }
+{
+    let mut configs = true;
+    let mut addresses = true;
+    let mut i: usize = 0;
+    while i < 16 {
+        let cfg = cfgs[i];
+        configs = configs & ((cfg & 0x60 == 0) & (cfg & 3 != 2));
+        addresses = addresses & (addrs[i] < 0x40000000000000);
+        i += 1;
+    }
+    configs & addresses
+}
+
+// Whether a hart can hold these registers.
+pub fn can_hold(pmp: Pmp) -> bool
+    ensures { λ r. ⌜ r ≡ pmpHoldable pmp ⌝ }
+{
+    let cfgs = pmp.cfgs;
+    let addrs = pmp.addrs;
+    arrays_can_hold(cfgs, addrs)
+}
+
+pub fn reset() -> Pmp
+    ensures { λ r. ⌜ r ≡ resetPmp ⌝ }
+{
+    Pmp {
+        cfgs: [0; 16],
+        addrs: [0; 16],
+    }
+}
+
+// Bytes a and b, and addresses c and d.
+fn same_arrays(a: [u8; 16], b: [u8; 16], c: [u64; 16], d: [u64; 16]) -> bool
+    ensures { λ r. ⌜ r ≡ (sameList a b && sameList c d) ⌝ }
+{
+    let mut configs = true;
+    let mut addresses = true;
+    let mut i: usize = 0;
+    while i < 16 {
+        configs = configs & (a[i] == b[i]);
+        addresses = addresses & (c[i] == d[i]);
+        i += 1;
+    }
+    configs & addresses
+}
+
+// Whether no byte and no address differs.
+pub fn same(a: Pmp, b: Pmp) -> bool
+    ensures { λ r. ⌜ r ≡ samePmp a b ⌝ }
+{
+    let a_cfgs = a.cfgs;
+    let b_cfgs = b.cfgs;
+    let a_addrs = a.addrs;
+    let b_addrs = b.addrs;
+    same_arrays(a_cfgs, b_cfgs, a_addrs, b_addrs)
+}
+
+// What the type says of the registers, as a fact for callers.
+pub fn typed(pmp: Pmp)
+    ensures { λ _. ⌜ Arrays pmp ⌝ }
+{}

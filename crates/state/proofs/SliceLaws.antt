@@ -1,0 +1,82 @@
+-- What a slice of 41 words reads as, and what is left in it. Assumes nothing.
+use Prim.Native.Nat.{ℕ}
+use mathlib.Core.Path.{_≡_, refl, sym, ap, subst, _∙_}
+use mathlib.Core.List.{List}
+use borrow.Author.Tests.{eq-eqb}
+use lib.ListN.{length}
+use lib.Seq.{sets, length-sets}
+use Rattle.bits.specs.Lists.{elements}
+use Rattle.bits.proofs.ListLaws.{elements-are}
+use Rattle.registers.specs.declared.Registers.{Registers}
+use Rattle.protection.specs.declared.Pmp.{Pmp}
+use Rattle.protection.specs.Arrays.{Arrays}
+use Rattle.protection.proofs.Packing.{configs-back}
+use Rattle.state.specs.declared.State.{State}
+use Rattle.state.specs.Words.{registerWords, pmpWords, wordsOf, registersOf, pmpOf, stateOf}
+use Rattle.state.specs.Slices.{loadedRegisters, loadedPmp, loaded, storedRegisters, storedPmp, stored}
+
+module _ (w : List ℕ) (fit : length w ≡ 41) where
+  pub registers-loaded : loadedRegisters w ≡ registersOf w
+  unfolding loadedRegisters
+  registers-loaded = rw (eq-eqb (length w) 41 fit)
+
+  pub pmp-loaded : loadedPmp w ≡ pmpOf w
+  unfolding loadedPmp
+  pmp-loaded = rw (eq-eqb (length w) 41 fit)
+
+  pub all-loaded : loaded w ≡ stateOf w
+  all-loaded = λ j. record { registers = registers-loaded j; pmp = pmp-loaded j }
+
+  -- the words one by one
+  spelt : w ≡ elements 41 0 w
+  spelt = sym (elements-are w 41 0 fit)
+
+  registers-put : (r : Registers) → storedRegisters r w ≡ sets w 0 (registerWords r)
+  unfolding storedRegisters
+  registers-put r = rw (eq-eqb (length w) 41 fit)
+
+  pmp-put : (p : Pmp) → storedPmp p w ≡ sets w 23 (pmpWords p)
+  unfolding storedPmp
+  pmp-put p = rw (eq-eqb (length w) 41 fit)
+
+registers-spelt : (r : Registers) (w : List ℕ)
+    → stateOf (sets (elements 41 0 w) 0 (registerWords r)) ≡ record { registers = r; pmp = pmpOf (elements 41 0 w) }
+unfolding elements
+registers-spelt r w = refl
+
+pmp-spelt : (p : Pmp) (w : List ℕ) → Arrays p
+    → stateOf (sets (elements 41 0 w) 23 (pmpWords p)) ≡ record { registers = registersOf (elements 41 0 w); pmp = p }
+unfolding elements
+pmp-spelt p w t =
+    λ j.
+    record {
+      registers = registersOf (elements 41 0 w);
+      pmp = record { cfgs = configs-back (p .cfgs) (t .cfgs) (t .bytes) j; addrs = elements-are (p .addrs) 16 0 (t .addrs) j };
+    }
+
+all-spelt : (s : State) (w : List ℕ) → sets (sets (elements 41 0 w) 0 (registerWords (s .registers))) 23 (pmpWords (s .pmp)) ≡ wordsOf s
+unfolding wordsOf elements
+all-spelt s w = refl
+
+module _ (w : List ℕ) (fit : length w ≡ 41) where
+  -- the state of words whose registers were written
+  pub registers-stored : (r : Registers) → stateOf (storedRegisters r w) ≡ record { registers = r; pmp = pmpOf w }
+  registers-stored r =
+      ap stateOf (registers-put w fit r)
+      ∙ subst (λ (v : List ℕ). stateOf (sets v 0 (registerWords r)) ≡ record { registers = r; pmp = pmpOf v }) (sym (spelt w fit)) (registers-spelt r w)
+
+  -- the state of words whose protection registers were written
+  pub pmp-stored : (p : Pmp) → Arrays p → stateOf (storedPmp p w) ≡ record { registers = registersOf w; pmp = p }
+  pmp-stored p t =
+      ap stateOf (pmp-put w fit p)
+      ∙ subst (λ (v : List ℕ). stateOf (sets v 23 (pmpWords p)) ≡ record { registers = registersOf v; pmp = p }) (sym (spelt w fit)) (pmp-spelt p w t)
+
+  pub registers-length : (r : Registers) → length (storedRegisters r w) ≡ 41
+  registers-length r = ap length (registers-put w fit r) ∙ length-sets w 0 (registerWords r) ∙ fit
+
+  -- the words that a whole state leaves are its own
+  pub all-stored : (s : State) → stored s w ≡ wordsOf s
+  all-stored s =
+      pmp-put (storedRegisters (s .registers) w) (registers-length (s .registers)) (s .pmp)
+      ∙ ap (λ (v : List ℕ). sets v 23 (pmpWords (s .pmp))) (registers-put w fit (s .registers))
+      ∙ subst (λ (v : List ℕ). sets (sets v 0 (registerWords (s .registers))) 23 (pmpWords (s .pmp)) ≡ wordsOf s) (sym (spelt w fit)) (all-spelt s w)

@@ -1,0 +1,23 @@
+// All registers of a hart, and the 41 words in which they lie.
+use protection::Pmp;
+use registers::Registers;
+
+mod hold;
+mod words;
+
+pub use hold::can_hold;
+pub use hold::reset;
+pub use words::load;
+pub use words::load_pmp;
+pub use words::load_registers;
+pub use words::of_words;
+pub use words::store;
+pub use words::store_pmp;
+pub use words::store_registers;
+pub use words::to_words;
+
+// Every register as a raw number: it can hold what no hart can, and is then refused.
+pub struct State {
+    pub registers: Registers,
+    pub pmp: Pmp,
+}

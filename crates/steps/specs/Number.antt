@@ -1,0 +1,53 @@
+-- 01, "Steps" and "Traps, returns, time": the numbers of each case of an answer, and its values.
+use Prim.Native.Nat.{ℕ, _+_, _^_}
+use mathlib.Core.Bool.{cond}
+use mathlib.Core.List.{List, [], _∷_}
+use Rattle.steps.specs.declared.Level.{Level}
+use Rattle.steps.specs.declared.Level.the-variants.{Supervisor, Machine}
+use Rattle.steps.specs.declared.Trap.{Trap}
+use Rattle.steps.specs.declared.Trap.the-variants.{Exception, Interrupt}
+use Rattle.steps.specs.declared.Answer.{Answer}
+use Rattle.steps.specs.declared.Answer.the-variants.{Done, DoneValue, DoneFlag, Granted, Trapped, Refused}
+
+-- the number of a level's mode: S=1, M=3
+abbrev pub levelNumber : Level → ℕ
+levelNumber Supervisor = 1
+levelNumber Machine = 3
+
+-- an exception's cause is its number; interrupt cause is 2^63+i
+abbrev pub causeNumber : Trap → ℕ
+causeNumber (Exception c) = c
+causeNumber (Interrupt i) = 2 ^ 63 + i
+
+-- the number of an interrupt; an exception has none
+abbrev pub interruptNumber : Trap → ℕ
+interruptNumber (Exception c) = 0
+interruptNumber (Interrupt i) = i
+
+-- the interrupt of an answer, 0 for none
+abbrev pub answerInterrupt : Answer → ℕ
+answerInterrupt Done = 0
+answerInterrupt (DoneValue old) = 0
+answerInterrupt (DoneFlag flag) = 0
+answerInterrupt Granted = 0
+answerInterrupt (Trapped trap level) = interruptNumber trap
+answerInterrupt (Refused number) = 0
+
+-- the cases are numbered in 01's order (house): 0 done; 1 done with a value; 2 done with yes (1) or no (0); 3 granted; 4 trapped, with cause and
+-- destination mode; 5 refused, with its number
+abbrev pub answerNumbers : Answer → List ℕ
+answerNumbers Done = 0 ∷ 0 ∷ 0 ∷ []
+answerNumbers (DoneValue v) = 1 ∷ v ∷ 0 ∷ []
+answerNumbers (DoneFlag b) = 2 ∷ cond b 1 0 ∷ 0 ∷ []
+answerNumbers Granted = 3 ∷ 0 ∷ 0 ∷ []
+answerNumbers (Trapped trap level) = 4 ∷ causeNumber trap ∷ levelNumber level ∷ []
+answerNumbers (Refused n) = 5 ∷ n ∷ 0 ∷ []
+
+-- the number of a refusal, and 0 for any other answer
+abbrev pub refusalOf : Answer → ℕ
+refusalOf Done = 0
+refusalOf (DoneValue old) = 0
+refusalOf (DoneFlag flag) = 0
+refusalOf Granted = 0
+refusalOf (Trapped trap level) = 0
+refusalOf (Refused number) = number

@@ -1,0 +1,63 @@
+-- A step of the registers alone is refused exactly when the table says, and a refusal changes nothing. Assumes nothing.
+use Prim.Native.Nat.{ℕ}
+use mathlib.Core.Path.{_≡_, refl}
+use mathlib.Core.Bool.{Bool, true, false, cond}
+use lib.Dec.{leb}
+use Rattle.bits.specs.Mask.{within}
+use Rattle.bits.proofs.Conjunction.{by-test}
+use Rattle.steps.specs.declared.Level.{Level}
+use Rattle.steps.specs.declared.Level.the-variants.{Supervisor, Machine}
+use Rattle.steps.specs.declared.Event.{Event}
+use Rattle.steps.specs.declared.Event.the-variants.{Raise, Lines, TakeInterrupt, Mret, Sret, Wfi, Ecall, Ebreak, Advance, Elapsed}
+use Rattle.steps.specs.Number.{refusalOf}
+use Rattle.registers.specs.declared.Registers.{Registers}
+use Rattle.registers.specs.Masks.{linesMask}
+use Rattle.registers.specs.Hold.{aligned}
+use Rattle.trap.specs.declared.Choice.{Choice}
+use Rattle.trap.specs.declared.Choice.the-variants.{Take, Nothing}
+use Rattle.trap.specs.declared.Outcome.{Outcome}
+use Rattle.trap.specs.Refusal.{refusedStep}
+use Rattle.trap.specs.Enter.{raised, raiseStep}
+use Rattle.trap.specs.Interrupt.{linesStep, takeable, firstOf, priority, takenBy, interruptTaken}
+use Rattle.trap.specs.Return.{mayReturn, returnStep, mayWait, waited}
+use Rattle.trap.specs.Time.{advanced, elapsed}
+use Rattle.trap.specs.Events.{eventStep, eventRefusal}
+
+-- the answer has this refusal's number, and where that is one the registers are what went in
+abbrev pub Quiet : Registers → ℕ → Outcome → Type 0
+Quiet r n o = (refusalOf (o .answer) ≡ n) × ((n ≡ 0 → ⊥) → o .registers ≡ r)
+
+-- nothing is asked of a step that is not refused
+pub never : {A : Type 0} → (_≡_ {A = ℕ} 0 0 → ⊥) → A
+never z = absurd (z refl)
+
+module _ (r : Registers) where
+  pub raised-quiet : (cause tval : ℕ) → Quiet r 0 (raised r cause tval)
+  unfolding raised
+  raised-quiet cause tval = (refl, never)
+
+  -- the table and the step go by one test
+  unless-refused : (b : Bool) (o : Outcome) → Quiet r 0 o → Quiet r (cond b 0 2) (cond b o (refusedStep r 2))
+  unless-refused true o q = q
+  unless-refused false o q = (refl, λ z. refl)
+
+  taken-quiet : (choice : Choice) → Quiet r 0 (takenBy r choice)
+  taken-quiet (Take i) = (refl, never)
+  taken-quiet Nothing = (refl, never)
+
+  return-quiet : (level : Level) → Quiet r 0 (returnStep level r)
+  unfolding returnStep
+  return-quiet level = by-test (Quiet r 0) (mayReturn level r) _ _ (λ t. (refl, never)) (λ t. raised-quiet 2 0)
+
+  pub event-quiet : (event : Event) → Quiet r (eventRefusal event) (eventStep r event)
+  unfolding raiseStep linesStep interruptTaken waited advanced elapsed
+  event-quiet (Raise cause tval) = unless-refused (leb cause 7) _ (raised-quiet cause tval)
+  event-quiet (Lines lines) = unless-refused (within linesMask lines) _ (refl, never)
+  event-quiet TakeInterrupt = taken-quiet (firstOf (takeable r) priority)
+  event-quiet Mret = return-quiet Machine
+  event-quiet Sret = return-quiet Supervisor
+  event-quiet Wfi = by-test (Quiet r 0) (mayWait r) _ _ (λ t. (refl, never)) (λ t. raised-quiet 2 0)
+  event-quiet Ecall = raised-quiet _ 0
+  event-quiet Ebreak = raised-quiet 3 0
+  event-quiet (Advance target) = by-test (Quiet r 0) (aligned target) _ _ (λ t. (refl, never)) (λ t. raised-quiet 0 target)
+  event-quiet (Elapsed cycles retired) = (refl, never)

@@ -1,2 +1,0 @@
--- The laws that the crates above cite.
-pub mod Back
