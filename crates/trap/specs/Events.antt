@@ -1,6 +1,5 @@
 -- 01, "Steps": the steps of the registers alone, 5 to 13 and 17.
-use Prim.Native.Nat.{ℕ}
-use mathlib.Core.Bool.{cond}
+use mathlib.Core.Bool.{Bool, false, not}
 use lib.Dec.{leb}
 use Rattle.bits.specs.Mask.{within}
 use Rattle.steps.specs.declared.Level.the-variants.{Supervisor, Machine}
@@ -28,14 +27,14 @@ eventStep r (Advance target) = advanced r target
 eventStep r (Elapsed cycles retired) = elapsed r cycles retired
 
 -- refusal 2: raise cause above 7; lines outside 0xA88
-abbrev pub eventRefusal : Event → ℕ
-eventRefusal (Raise cause tval) = cond (leb cause 7) 0 2
-eventRefusal (Lines lines) = cond (within linesMask lines) 0 2
-eventRefusal TakeInterrupt = 0
-eventRefusal Mret = 0
-eventRefusal Sret = 0
-eventRefusal Wfi = 0
-eventRefusal Ecall = 0
-eventRefusal Ebreak = 0
-eventRefusal (Advance target) = 0
-eventRefusal (Elapsed cycles retired) = 0
+abbrev pub eventRefused : Event → Bool
+eventRefused (Raise cause tval) = not (leb cause 7)
+eventRefused (Lines lines) = not (within linesMask lines)
+eventRefused TakeInterrupt = false
+eventRefused Mret = false
+eventRefused Sret = false
+eventRefused Wfi = false
+eventRefused Ecall = false
+eventRefused Ebreak = false
+eventRefused (Advance target) = false
+eventRefused (Elapsed cycles retired) = false
