@@ -5,3 +5,7 @@ pub mod Texts
 pub mod Faithfulness
 pub mod AfterRun
 pub mod Worked
+pub mod OneValue
+pub mod Counting
+pub mod OneAccess
+pub mod Consequences

@@ -5,3 +5,4 @@ pub mod Texts
 pub mod Faithful
 pub mod AfterRun
 pub mod Worked
+pub mod Consequences

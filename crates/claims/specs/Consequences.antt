@@ -1,0 +1,269 @@
+-- Sentences of 01 that no definition says in its own words, each as a law that follows: registers of one value, the counters, misaligned accesses,
+-- the saved text, the map.
+use Prim.Native.Nat.{ℕ, _+_, _/_, _%_, _^_, _≤_, _<_}
+use Prim.Native.String.{String}
+use mathlib.Core.Path.{_≡_}
+use mathlib.Core.Bool.{Bool, true, false, cond, not, _&&_, _||_}
+use mathlib.Core.List.{List, [], _∷_, _++_}
+use mathlib.Core.Logic.{_⊎_}
+use lib.Dec.{eqb, ltb}
+use lib.ListN.{length, getD, take, drop}
+use Rattle.bits.specs.Lists.{Words}
+use Rattle.bits.specs.Mask.{testBit}
+use Rattle.lines.specs.Lines.{bytesOf, hexDigits, lineOf}
+use Rattle.pmp.specs.declared.Mode.{Mode}
+use Rattle.pmp.specs.declared.Access.{Access}
+use Rattle.pmp.specs.declared.Access.the-variants.{Load, Store}
+use Rattle.pmp.specs.declared.Decision.{Decision}
+use Rattle.pmp.specs.Number.{faultCause}
+use Rattle.pmp.specs.Entry.{top, entries, matches}
+use Rattle.pmp.specs.Rule.{none, ownerDecides, byteRule, isSize, ownerOf}
+use Rattle.steps.specs.declared.Trap.the-variants.{Exception}
+use Rattle.steps.specs.declared.Operation.{Operation}
+use Rattle.steps.specs.declared.Operation.the-variants.{Read}
+use Rattle.steps.specs.declared.Event.{Event}
+use Rattle.steps.specs.declared.Event.the-variants.{Raise, Lines, TakeInterrupt, Mret, Sret, Wfi, Ecall, Ebreak, Advance, Elapsed}
+use Rattle.steps.specs.declared.Step.{Step}
+use Rattle.steps.specs.declared.Step.the-variants.{Reset, Csr, Access as AccessStep, Event as EventStep}
+use Rattle.steps.specs.declared.Answer.the-variants.{Done, DoneValue, Granted, Trapped}
+use Rattle.registers.specs.declared.Counters.{Counters}
+use Rattle.registers.specs.declared.Registers.{Registers}
+use Rattle.registers.specs.Effective.{effectiveMode}
+use Rattle.registers.specs.Update.{levelOf, withPc, withCounters}
+use Rattle.protection.specs.Configs.{packed}
+use Rattle.state.specs.declared.State.{State}
+use Rattle.state.specs.Hold.{canHold, resetState}
+use Rattle.csr.specs.Permit.{between, attemptsWrite, illegal}
+use Rattle.csr.specs.Show.{registerRead}
+use Rattle.trap.specs.Enter.{destination, raised}
+use Rattle.map.specs.declared.Map.{Map}
+use Rattle.map.specs.Ranges.{IsMap}
+use Rattle.map.specs.Compiled.{compiled}
+use Rattle.text.specs.Text.{textOf, readAs, readText}
+use Rattle.engine.specs.Effects.{withRegisters}
+use Rattle.hart.specs.declared.Hart.{Hart}
+use Rattle.hart.specs.declared.Stepped.{Stepped}
+use Rattle.hart.specs.Steps.{hartWith, handedBack, stepped}
+use Rattle.hart.specs.Saved.{textFor}
+
+-- ---- registers of one value
+
+-- a number in one of these ranges, first and last included
+abbrev pub listed : List (ℕ × ℕ) → ℕ → Bool
+listed [] n = false
+listed (r ∷ rs) n = between (r .0) (r .1) n || listed rs n
+
+-- F11 to F15, 323 to 33F, B03 to B1F, C03 to C1F, 30A, 10A, 180 read 0
+abbrev pub zeroNumbers : List (ℕ × ℕ)
+zeroNumbers = (0xF11, 0xF15) ∷ (0x323, 0x33F) ∷ (0xB03, 0xB1F) ∷ (0xC03, 0xC1F) ∷ (0x30A, 0x30A) ∷ (0x10A, 0x10A) ∷ (0x180, 0x180) ∷ []
+
+abbrev pub readsZero : ℕ → Bool
+readsZero n = listed zeroNumbers n
+
+-- a write to 301, 323 to 33F, B03 to B1F, 30A, 10A or 180 changes nothing
+abbrev pub fixedNumbers : List (ℕ × ℕ)
+fixedNumbers = (0x301, 0x301) ∷ (0x323, 0x33F) ∷ (0xB03, 0xB1F) ∷ (0x30A, 0x30A) ∷ (0x10A, 0x10A) ∷ (0x180, 0x180) ∷ []
+
+abbrev pub ignoresWrites : ℕ → Bool
+ignoresWrites n = listed fixedNumbers n
+
+-- a hart whose pc moved on by 4, wrapping, and nothing else; the map as given; the old value
+abbrev pub movedOn : Hart → Map → ℕ → Stepped
+movedOn h map old =
+    handedBack (hartWith (withRegisters (h .state) (withPc (h .state .registers) ((h .state .registers .pc + 4) % 2 ^ 64)))) map (DoneValue old)
+
+-- ---- the counters
+
+abbrev pub isElapsed : Event → Bool
+isElapsed (Raise cause tval) = false
+isElapsed (Lines lines) = false
+isElapsed TakeInterrupt = false
+isElapsed Mret = false
+isElapsed Sret = false
+isElapsed Wfi = false
+isElapsed Ecall = false
+isElapsed Ebreak = false
+isElapsed (Advance target) = false
+isElapsed (Elapsed cycles retired) = true
+
+-- what may change the counter of this number: a reset, and, of a state that a hart can hold, elapsed and a write attempt to it that is not illegal
+abbrev pub mayChange : ℕ → State → Step → Bool
+mayChange counter s Reset = true
+mayChange counter s (Csr op number operand) =
+    canHold s && (attemptsWrite op && (eqb number counter && not (illegal (s .registers) op number)))
+mayChange counter s (AccessStep access address size) = false
+mayChange counter s (EventStep event) = canHold s && isElapsed event
+
+-- every other step leaves it: refused, trapping and illegal ones, fetches, loads and stores too
+abbrev pub OthersLeave : ℕ → (Counters → ℕ) → Type 0
+OthersLeave number counter =
+    (h : Hart) (map : Map) (step : Step) → mayChange number (h .state) step ≡ false
+    → counter (stepped h map step .hart .state .registers .counters) ≡ counter (h .state .registers .counters)
+
+-- mcycle and minstret after elapsed, and nothing else changed
+abbrev pub elapsedBy : Hart → ℕ → ℕ → State
+elapsedBy h cycles retired =
+    let c = h .state .registers .counters in
+    withRegisters (h .state)
+    (withCounters (h .state .registers) (c .mcountinhibit)
+    (cond (testBit (c .mcountinhibit) 0) (c .mcycle) ((c .mcycle + cycles) % 2 ^ 64))
+    (cond (testBit (c .mcountinhibit) 2) (c .minstret) ((c .minstret + retired) % 2 ^ 64)))
+
+-- ---- loads and stores
+
+-- the byte rule on all bytes of a load or store at once, in its effective mode
+abbrev pub ruleOn : Hart → Access → ℕ → ℕ → Decision
+ruleOn h access address size =
+    byteRule (h .state .pmp .cfgs) (h .state .pmp .addrs) (effectiveMode (h .state .registers) access) access address size
+
+-- a step that traps with this cause and trap value, and does no more than the entry
+pub record TrapsWith (h : Hart) (map : Map) (cause tval : ℕ) (after : Stepped) : Type 0 where
+  pub entry :
+      after
+      ≡ handedBack (hartWith (withRegisters (h .state) (raised (h .state .registers) cause tval .registers))) map (raised (h .state .registers) cause tval .answer)
+  pub answer : after .answer ≡ Trapped (Exception cause) (destination (h .state .registers) (Exception cause))
+  pub recorded :
+      (levelOf (destination (h .state .registers) (Exception cause)) (after .hart .state .registers) .cause ≡ cause)
+      × (levelOf (destination (h .state .registers) (Exception cause)) (after .hart .state .registers) .tval ≡ tval)
+
+-- an access of this kind at any address, of any of the four sizes: one decision, and where that is a fault this cause and the first byte's address
+abbrev pub OneAccess : Access → ℕ → Type 0
+OneAccess access cause =
+    (h : Hart) (map : Map) (address size : ℕ) → canHold (h .state) ≡ true → isSize size ≡ true
+    → ((ruleOn h access address size ≡ Decision.Granted) × (stepped h map (AccessStep access address size) ≡ handedBack h map Granted))
+    ⊎ ((ruleOn h access address size ≡ Decision.Fault cause) × TrapsWith h map cause address (stepped h map (AccessStep access address size)))
+
+-- ---- the saved text
+
+-- each key with the register that it names
+abbrev pub keyed : State → List (String × ℕ)
+keyed s =
+    let r = s .registers in
+    let i = r .interrupts in
+    let c = r .counters in
+    let m = r .machine in
+    let v = r .supervisor in
+    let a = s .pmp .addrs in
+    ("mode", r .mode) ∷ ("pc", r .pc) ∷ ("mstatus", r .mstatus) ∷ ("medeleg", r .medeleg) ∷ ("mideleg", i .mideleg) ∷ ("mie", i .mie)
+    ∷ ("mip", i .mip) ∷ ("lines", i .lines) ∷ ("mtvec", m .tvec) ∷ ("mcounteren", m .counteren) ∷ ("mcountinhibit", c .mcountinhibit)
+    ∷ ("mscratch", m .scratch) ∷ ("mepc", m .epc) ∷ ("mcause", m .cause) ∷ ("mtval", m .tval) ∷ ("stvec", v .tvec)
+    ∷ ("scounteren", v .counteren) ∷ ("sscratch", v .scratch) ∷ ("sepc", v .epc) ∷ ("scause", v .cause) ∷ ("stval", v .tval)
+    ∷ ("mcycle", c .mcycle) ∷ ("minstret", c .minstret) ∷ ("pmpcfg0", packed (take 8 (s .pmp .cfgs))) ∷ ("pmpcfg2", packed (drop 8 (s .pmp .cfgs)))
+    ∷ ("pmpaddr0", getD a 0 0) ∷ ("pmpaddr1", getD a 1 0) ∷ ("pmpaddr2", getD a 2 0) ∷ ("pmpaddr3", getD a 3 0) ∷ ("pmpaddr4", getD a 4 0)
+    ∷ ("pmpaddr5", getD a 5 0) ∷ ("pmpaddr6", getD a 6 0) ∷ ("pmpaddr7", getD a 7 0) ∷ ("pmpaddr8", getD a 8 0) ∷ ("pmpaddr9", getD a 9 0)
+    ∷ ("pmpaddr10", getD a 10 0) ∷ ("pmpaddr11", getD a 11 0) ∷ ("pmpaddr12", getD a 12 0) ∷ ("pmpaddr13", getD a 13 0)
+    ∷ ("pmpaddr14", getD a 14 0) ∷ ("pmpaddr15", getD a 15 0) ∷ []
+
+-- a line for each
+abbrev pub keyedText : List (String × ℕ) → List ℕ
+keyedText [] = []
+keyedText (l ∷ ls) = lineOf (l .0) (l .1) ++ keyedText ls
+
+-- every value 0 except mode 3, pc 1000, mstatus a00000000
+abbrev pub resetLines : List String
+resetLines =
+    "mode=0000000000000003"
+    ∷ "pc=0000000000001000"
+    ∷ "mstatus=0000000a00000000"
+    ∷ "medeleg=0000000000000000"
+    ∷ "mideleg=0000000000000000"
+    ∷ "mie=0000000000000000"
+    ∷ "mip=0000000000000000"
+    ∷ "lines=0000000000000000"
+    ∷ "mtvec=0000000000000000"
+    ∷ "mcounteren=0000000000000000"
+    ∷ "mcountinhibit=0000000000000000"
+    ∷ "mscratch=0000000000000000"
+    ∷ "mepc=0000000000000000"
+    ∷ "mcause=0000000000000000"
+    ∷ "mtval=0000000000000000"
+    ∷ "stvec=0000000000000000"
+    ∷ "scounteren=0000000000000000"
+    ∷ "sscratch=0000000000000000"
+    ∷ "sepc=0000000000000000"
+    ∷ "scause=0000000000000000"
+    ∷ "stval=0000000000000000"
+    ∷ "mcycle=0000000000000000"
+    ∷ "minstret=0000000000000000"
+    ∷ "pmpcfg0=0000000000000000"
+    ∷ "pmpcfg2=0000000000000000"
+    ∷ "pmpaddr0=0000000000000000"
+    ∷ "pmpaddr1=0000000000000000"
+    ∷ "pmpaddr2=0000000000000000"
+    ∷ "pmpaddr3=0000000000000000"
+    ∷ "pmpaddr4=0000000000000000"
+    ∷ "pmpaddr5=0000000000000000"
+    ∷ "pmpaddr6=0000000000000000"
+    ∷ "pmpaddr7=0000000000000000"
+    ∷ "pmpaddr8=0000000000000000"
+    ∷ "pmpaddr9=0000000000000000"
+    ∷ "pmpaddr10=0000000000000000"
+    ∷ "pmpaddr11=0000000000000000"
+    ∷ "pmpaddr12=0000000000000000"
+    ∷ "pmpaddr13=0000000000000000"
+    ∷ "pmpaddr14=0000000000000000"
+    ∷ "pmpaddr15=0000000000000000"
+    ∷ []
+
+-- lines, each with its line feed
+abbrev pub joined : List String → List ℕ
+joined [] = []
+joined (l ∷ ls) = bytesOf l ++ 10 ∷ joined ls
+
+-- ---- owners
+
+-- an owner is the lowest entry that matches the byte, or none
+pub record LowestOwner (cfgs addrs : List ℕ) (byte owner : ℕ) : Type 0 where
+  pub bound : owner ≤ none
+  pub matching : owner < entries → matches cfgs addrs owner byte ≡ true
+  pub lowest : (i : ℕ) → i < owner → matches cfgs addrs i byte ≡ false
+
+-- ---- all of them
+
+pub record Consequences : Type 0 where
+  -- "F11 to F15, 323 to 33F, B03 to B1F, C03 to C1F, 30A, 10A, 180 read 0": any CSR step on one that is not illegal; and in M a read never is
+  pub reads-zero : (h : Hart) (map : Map) (op : Operation) (number operand : ℕ) → canHold (h .state) ≡ true
+      → illegal (h .state .registers) op number ≡ false → readsZero number ≡ true → stepped h map (Csr op number operand) ≡ movedOn h map 0
+  pub readable : (r : Registers) (number : ℕ) → r .mode ≡ 3 → readsZero number ≡ true → illegal r Read number ≡ false
+  -- "misa (301) reads 0x8000000000141101"
+  pub reads-misa : (h : Hart) (map : Map) (op : Operation) (operand : ℕ) → canHold (h .state) ≡ true
+      → illegal (h .state .registers) op 0x301 ≡ false → stepped h map (Csr op 0x301 operand) ≡ movedOn h map 0x8000000000141101
+  -- "A write to 301, 323 to 33F, B03 to B1F, 30A, 10A or 180 is done and changes nothing"; it is illegal only below bits 9:8, or of 180 in S with TVM=1
+  pub ignores-writes : (h : Hart) (map : Map) (op : Operation) (number operand : ℕ) → canHold (h .state) ≡ true
+      → illegal (h .state .registers) op number ≡ false → ignoresWrites number ≡ true
+      → stepped h map (Csr op number operand) ≡ movedOn h map (registerRead (h .state .registers) number)
+  pub writable : (r : Registers) (op : Operation) (number : ℕ) → ignoresWrites number ≡ true
+      → illegal r op number ≡ (ltb (r .mode) (number / 256 % 4) || (eqb number 0x180 && (eqb (r .mode) 1 && testBit (r .mstatus) 20)))
+  -- "Elapsed adds a to mcycle unless inhibit bit 0, b to minstret unless bit 2; both counters wrap at 2^64. No other step counts."
+  pub elapsed-counts : (h : Hart) (map : Map) (cycles retired : ℕ) → canHold (h .state) ≡ true
+      → stepped h map (EventStep (Elapsed cycles retired)) ≡ handedBack (hartWith (elapsedBy h cycles retired)) map Done
+  pub mcycle-left : OthersLeave 0xB00 (λ c. c .mcycle)
+  pub minstret-left : OthersLeave 0xB02 (λ c. c .minstret)
+  -- "A misaligned load or store is one access (house). A granted access changes nothing." "Faults: fetch 1, load 5, store 7, tval the first byte's address."
+  pub load : OneAccess Load 5
+  pub store : OneAccess Store 7
+  -- "Any byte at or above 2^56: access fault in every mode (house). Else the lowest entry matching any byte decides: it must match all bytes, or fault,
+  -- even in M with L=0": bytes of two owners fault, bytes of one are decided by it
+  pub beyond : (cfgs addrs : List ℕ) (mode : Mode) (access : Access) (address size : ℕ) → 0 < size → top < address + size
+      → byteRule cfgs addrs mode access address size ≡ Decision.Fault (faultCause access)
+  pub two-owners : (cfgs addrs : List ℕ) (mode : Mode) (access : Access) (address size b d : ℕ) → address + size ≤ top
+      → address ≤ b → b < address + size → address ≤ d → d < address + size → (ownerOf cfgs addrs b ≡ ownerOf cfgs addrs d → ⊥)
+      → byteRule cfgs addrs mode access address size ≡ Decision.Fault (faultCause access)
+  pub one-owner : (cfgs addrs : List ℕ) (mode : Mode) (access : Access) (address size owner : ℕ) → 0 < size → address + size ≤ top
+      → ((byte : ℕ) → address ≤ byte → byte < address + size → ownerOf cfgs addrs byte ≡ owner)
+      → byteRule cfgs addrs mode access address size ≡ ownerDecides cfgs mode access owner
+  -- "owner being the lowest entry matching each byte or none"
+  pub owner : (cfgs addrs : List ℕ) (byte : ℕ) → LowestOwner cfgs addrs byte (ownerOf cfgs addrs byte)
+  -- "41 lines, each key, `=`, 16 lower-case hexadecimal digits, line feed; 1,027 bytes. Keys in this order"
+  pub lines : (s : State) → (textFor (hartWith s) ≡ keyedText (keyed s)) × (length (keyed s) ≡ 41) × (length (textFor (hartWith s)) ≡ 1027)
+  pub digits : hexDigits 16 0x0123456789ABCDEF ≡ bytesOf "0123456789abcdef"
+  -- "The reset state is that text with every value 0 except mode 3, pc 1000, mstatus a00000000."
+  pub reset-text : textFor (hartWith resetState) ≡ joined resetLines
+  -- reading and writing a text are inverse: 41 words below 2^64 are read from their text, what is read as words is their text, and what is refused is no text
+  pub text-read : (words : List ℕ) → Words 41 words → readText (textOf words) ≡ readAs words
+  pub read-text : (text words : List ℕ) → readText text ≡ readAs words → (text ≡ textOf words) × Words 41 words
+  pub unread : (text words : List ℕ) → readText text .ok ≡ false → Words 41 words → text ≡ textOf words → ⊥
+  -- "The map lists ranges (first byte, last byte, owner), owner being the lowest entry matching each byte or none. In order, no gap, no overlap,
+  -- from 0 to 2^56-1, neighbours never with one owner": the list in the compiled map, whatever bytes and addresses the sixteen entries have
+  pub map-laid : (cfgs addrs : List ℕ) → IsMap cfgs addrs (take (compiled cfgs addrs .count) (compiled cfgs addrs .ranges))
+  pub map-count : (cfgs addrs : List ℕ) → compiled cfgs addrs .count ≤ 33
