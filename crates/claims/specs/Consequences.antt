@@ -16,8 +16,8 @@ use Rattle.pmp.specs.declared.Access.{Access}
 use Rattle.pmp.specs.declared.Access.the-variants.{Fetch, Load, Store}
 use Rattle.pmp.specs.declared.Decision.{Decision}
 use Rattle.pmp.specs.Number.{faultCause}
-use Rattle.pmp.specs.Entry.{top, entries, matches}
-use Rattle.pmp.specs.Rule.{none, ownerDecides, byteRule, isSize, ownerOf}
+use Rattle.pmp.specs.Entry.{matches}
+use Rattle.pmp.specs.Rule.{ownerDecides, byteRule, isSize, ownerOf}
 use Rattle.steps.specs.declared.Trap.the-variants.{Exception}
 use Rattle.steps.specs.declared.Operation.{Operation}
 use Rattle.steps.specs.declared.Operation.the-variants.{Read}
@@ -211,10 +211,10 @@ joined (l ∷ ls) = bytesOf l ++ 10 ∷ joined ls
 
 -- ---- owners
 
--- an owner is the lowest entry that matches the byte, or none
+-- an owner is the lowest of the sixteen entries that matches the byte, or none, which is 16
 pub record LowestOwner (cfgs addrs : List ℕ) (byte owner : ℕ) : Type 0 where
-  pub bound : owner ≤ none
-  pub matching : owner < entries → matches cfgs addrs owner byte ≡ true
+  pub bound : owner ≤ 16
+  pub matching : owner < 16 → matches cfgs addrs owner byte ≡ true
   pub lowest : (i : ℕ) → i < owner → matches cfgs addrs i byte ≡ false
 
 -- ---- all of them
@@ -248,12 +248,12 @@ pub record Consequences : Type 0 where
       → OneAccess h map Fetch 1 (h .state .registers .pc) 4 (stepped h map (AccessStep Fetch a b))
   -- "Any byte at or above 2^56: access fault in every mode (house). Else the lowest entry matching any byte decides: it must match all bytes, or fault,
   -- even in M with L=0": bytes of two owners fault, bytes of one are decided by it
-  pub beyond : (cfgs addrs : List ℕ) (mode : Mode) (access : Access) (address size : ℕ) → 0 < size → top < address + size
+  pub beyond : (cfgs addrs : List ℕ) (mode : Mode) (access : Access) (address size : ℕ) → 0 < size → 2 ^ 56 < address + size
       → byteRule cfgs addrs mode access address size ≡ Decision.Fault (faultCause access)
-  pub two-owners : (cfgs addrs : List ℕ) (mode : Mode) (access : Access) (address size b d : ℕ) → address + size ≤ top
+  pub two-owners : (cfgs addrs : List ℕ) (mode : Mode) (access : Access) (address size b d : ℕ) → address + size ≤ 2 ^ 56
       → address ≤ b → b < address + size → address ≤ d → d < address + size → (ownerOf cfgs addrs b ≡ ownerOf cfgs addrs d → ⊥)
       → byteRule cfgs addrs mode access address size ≡ Decision.Fault (faultCause access)
-  pub one-owner : (cfgs addrs : List ℕ) (mode : Mode) (access : Access) (address size owner : ℕ) → 0 < size → address + size ≤ top
+  pub one-owner : (cfgs addrs : List ℕ) (mode : Mode) (access : Access) (address size owner : ℕ) → 0 < size → address + size ≤ 2 ^ 56
       → ((byte : ℕ) → address ≤ byte → byte < address + size → ownerOf cfgs addrs byte ≡ owner)
       → byteRule cfgs addrs mode access address size ≡ ownerDecides cfgs mode access owner
   -- "owner being the lowest entry matching each byte or none"
