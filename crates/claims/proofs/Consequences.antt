@@ -1,4 +1,4 @@
--- Sentences of 01 that follow from the definitions. Assumes nothing.
+-- Sentences of 01 that rest on more than one definition hold. Assumes nothing.
 use Prim.Native.Nat.{ℕ}
 use mathlib.Core.Path.{_≡_, refl}
 use mathlib.Core.List.{List}

@@ -1,4 +1,4 @@
--- Sentences of 01 that no definition says in its own words, each as a law that follows: registers of one value, the counters, misaligned accesses,
+-- Sentences of 01 that rest on more than one definition, each as a law in 01's own numbers: registers of one value, the counters, accesses,
 -- the saved text, the map.
 use Prim.Native.Nat.{ℕ, _+_, _/_, _%_, _^_, _≤_, _<_}
 use Prim.Native.String.{String}
