@@ -1,4 +1,4 @@
--- Sentences of 01 that follow from the definitions. Assumes nothing.
+-- Sentences of 01 that rest on more than one definition hold. Assumes nothing.
 use Prim.Native.Nat.{ℕ}
 use mathlib.Core.Path.{_≡_, refl}
 use mathlib.Core.List.{List}
@@ -24,7 +24,7 @@ use Rattle.hart.specs.Saved.{textFor}
 use Rattle.claims.specs.Consequences.{keyed, keyedText, resetLines, joined, LowestOwner, Consequences}
 use Rattle.claims.proofs.OneValue.{zero-step, zero-readable, misa-step, fixed-step, fixed-writable}
 use Rattle.claims.proofs.Counting.{mcycle-left, minstret-left, elapsed-counts}
-use Rattle.claims.proofs.OneAccess.{one-load, one-store}
+use Rattle.claims.proofs.OneAccess.{one-load, one-store, one-fetch}
 
 -- ---- the saved text
 
@@ -66,6 +66,7 @@ consequences =
       minstret-left = minstret-left;
       load = one-load;
       store = one-store;
+      fetch = one-fetch;
       beyond = beyond-faults;
       two-owners = λ cfgs addrs mode access address size. two-owners cfgs addrs address size mode access;
       one-owner = λ cfgs addrs mode access address size. one-owner cfgs addrs address size mode access;

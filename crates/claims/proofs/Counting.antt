@@ -89,13 +89,9 @@ cond-same : {A : Type 0} (b : Bool) (x : A) → cond b x x ≡ x
 cond-same true x = refl
 cond-same false x = refl
 
-cond-mcycle : (b : Bool) (x y : Registers) → cond b x y .counters .mcycle ≡ cond b (x .counters .mcycle) (y .counters .mcycle)
-cond-mcycle true x y = refl
-cond-mcycle false x y = refl
-
-cond-minstret : (b : Bool) (x y : Registers) → cond b x y .counters .minstret ≡ cond b (x .counters .minstret) (y .counters .minstret)
-cond-minstret true x y = refl
-cond-minstret false x y = refl
+through : {A B : Type 0} (f : A → B) (b : Bool) (x y : A) → f (cond b x y) ≡ cond b (f x) (f y)
+through f true x y = refl
+through f false x y = refl
 
 -- a write to another number leaves the counter
 abbrev WriteLeaves : ℕ → (Counters → ℕ) → Type 0
@@ -104,11 +100,11 @@ WriteLeaves number counter =
 
 mcycle-written : WriteLeaves 0xB00 (λ c. c .mcycle)
 unfolding registersWritten
-mcycle-written r n value e = simp (cond-mcycle, e, cond-same)
+mcycle-written r n value e = simp (through (λ (x : Registers). x .counters .mcycle), e, cond-same)
 
 minstret-written : WriteLeaves 0xB02 (λ c. c .minstret)
 unfolding registersWritten
-minstret-written r n value e = simp (cond-minstret, e, cond-same)
+minstret-written r n value e = simp (through (λ (x : Registers). x .counters .minstret), e, cond-same)
 
 -- ---- every step but those that may change the counter
 

@@ -1,10 +1,10 @@
--- A load or store, aligned or not, is decided by the byte rule on all its bytes at once. Assumes nothing.
+-- An access, aligned or not, is decided by the byte rule on all its bytes at once. Assumes nothing.
 use Prim.Native.Nat.{ℕ}
 use mathlib.Core.Path.{_≡_, refl, ap, _∙_}
 use mathlib.Core.Bool.{true}
-use mathlib.Core.Logic.{_⊎_, inl, inr, ⊎-elim}
+use mathlib.Core.Logic.{inl, inr, ⊎-elim}
 use Rattle.pmp.specs.declared.Access.{Access}
-use Rattle.pmp.specs.declared.Access.the-variants.{Load, Store}
+use Rattle.pmp.specs.declared.Access.the-variants.{Fetch, Load, Store}
 use Rattle.pmp.specs.declared.Decision.{Decision}
 use Rattle.pmp.specs.Number.{faultCause}
 use Rattle.pmp.specs.Rule.{isSize}
@@ -13,11 +13,13 @@ use Rattle.pmp.proofs.Answered.{rule-answers}
 use Rattle.steps.specs.declared.Level.{Level}
 use Rattle.steps.specs.declared.Level.the-variants.{Supervisor, Machine}
 use Rattle.steps.specs.declared.Trap.the-variants.{Exception}
+use Rattle.steps.specs.declared.Step.the-variants.{Access as AccessStep}
 use Rattle.steps.specs.declared.Answer.the-variants.{Granted}
 use Rattle.registers.specs.declared.Registers.{Registers}
 use Rattle.registers.specs.Update.{levelOf}
 use Rattle.registers.specs.Effective.{effectiveMode}
 use Rattle.protection.proofs.SameLaws.{same-pmp-refl}
+use Rattle.state.specs.Hold.{canHold}
 use Rattle.trap.specs.Enter.{destination, entered, raised}
 use Rattle.map.specs.declared.Map.{Map}
 use Rattle.engine.specs.Effects.{withRegisters, accessDecided, accessAt, stepRule}
@@ -65,18 +67,22 @@ module _ (h : Hart) (map : Map) where
         (checked-rule (h .state .pmp .cfgs) (h .state .pmp .addrs) (effectiveMode (h .state .registers) access) access address size sized ∙ e)
 
     one-decision : (after : Stepped) → after ≡ withMap h map (accessAt (h .state) access address size)
-        → ((ruleOn h access address size ≡ Decision.Granted) × (after ≡ handedBack h map Granted))
-        ⊎ ((ruleOn h access address size ≡ Decision.Fault (faultCause access)) × TrapsWith h map (faultCause access) address after)
+        → OneAccess h map access (faultCause access) address size after
     one-decision after e =
         ⊎-elim
         (λ g. inl (g, e ∙ decided Decision.Granted g ∙ rw (same-pmp-refl (h .state .pmp))))
         (λ f. inr (f, traps-with (faultCause access) address after (e ∙ decided _ f ∙ rw (same-pmp-refl (h .state .pmp)))))
         (rule-answers (h .state .pmp .cfgs) (h .state .pmp .addrs) (effectiveMode (h .state .registers) access) access address size)
 
-pub one-load : OneAccess Load 5
-unfolding stepped stepRule
-one-load h map address size held sized = one-decision h map Load address size sized _ (rw held)
+module _ (h : Hart) (map : Map) (address size : ℕ) (held : canHold (h .state) ≡ true) where
+  pub one-load : isSize size ≡ true → OneAccess h map Load 5 address size (stepped h map (AccessStep Load address size))
+  unfolding stepped stepRule
+  one-load sized = one-decision h map Load address size sized _ (rw held)
 
-pub one-store : OneAccess Store 7
-unfolding stepped stepRule
-one-store h map address size held sized = one-decision h map Store address size sized _ (rw held)
+  pub one-store : isSize size ≡ true → OneAccess h map Store 7 address size (stepped h map (AccessStep Store address size))
+  unfolding stepped stepRule
+  one-store sized = one-decision h map Store address size sized _ (rw held)
+
+  pub one-fetch : OneAccess h map Fetch 1 (h .state .registers .pc) 4 (stepped h map (AccessStep Fetch address size))
+  unfolding stepped stepRule
+  one-fetch = one-decision h map Fetch (h .state .registers .pc) 4 refl _ (rw held)

@@ -1,5 +1,5 @@
 -- Registers that read one value and ignore writes: any CSR step on one, where it is not illegal. Assumes nothing.
-use Prim.Native.Nat.{ℕ, suc, _-_}
+use Prim.Native.Nat.{ℕ, suc, _-_, _/_, _%_}
 use mathlib.Core.Path.{_≡_, refl, sym, ap, _∙_}
 use mathlib.Core.Bool.{Bool, true, false, not, _&&_, _||_, false≢true, and-false, or-false}
 use mathlib.Core.List.{List, [], _∷_}
@@ -7,6 +7,7 @@ use mathlib.Core.Logic.{⊎-elim}
 use native.Mathlib.Omega.{arith}
 use borrow.Author.Tests.{eqb-true, leb-true, not-true}
 use lib.Dec.{eqb, leb, ltb}
+use Rattle.bits.specs.Mask.{testBit}
 use Rattle.bits.proofs.Conjunction.{both, one-of, neither, by-test, contradiction, not-true-false}
 use Rattle.pmp.specs.Search.{everyByte}
 use Rattle.pmp.proofs.SearchLaws.{every-passes}
@@ -18,7 +19,7 @@ use Rattle.registers.specs.Update.{withFlow}
 use Rattle.protection.specs.Read.{isPmp}
 use Rattle.protection.proofs.SameLaws.{same-pmp-refl}
 use Rattle.state.specs.Hold.{canHold}
-use Rattle.csr.specs.Permit.{between, present, lowestMode, readOnly, attemptsWrite, translationTrapped, illegal}
+use Rattle.csr.specs.Permit.{between, present, readOnly, attemptsWrite, translationTrapped, illegal}
 use Rattle.csr.specs.Show.{registerRead}
 use Rattle.csr.specs.Store.{registersWritten}
 use Rattle.csr.specs.Operate.{registersOperated}
@@ -127,7 +128,7 @@ unfolding everyByte present
 fixed-open = refl
 
 pub fixed-writable : (r : Registers) (op : Operation) (n : ℕ) → ignoresWrites n ≡ true
-    → illegal r op n ≡ (ltb (r .mode) (lowestMode n) || translationTrapped r n)
+    → illegal r op n ≡ (ltb (r .mode) (n / 256 % 4) || (eqb n 0x180 && (eqb (r .mode) 1 && testBit (r .mstatus) 20)))
 unfolding illegal
 fixed-writable r op n p =
     let w = both (present n) (not (readOnly n || between 0xC00 0xC1F n)) (listed-passes openNumber fixedNumbers n fixed-open p) in

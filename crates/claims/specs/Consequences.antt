@@ -1,4 +1,4 @@
--- Sentences of 01 that no definition says in its own words, each as a law that follows: registers of one value, the counters, misaligned accesses,
+-- Sentences of 01 that rest on more than one definition, each as a law in 01's own numbers: registers of one value, the counters, accesses,
 -- the saved text, the map.
 use Prim.Native.Nat.{ℕ, _+_, _/_, _%_, _^_, _≤_, _<_}
 use Prim.Native.String.{String}
@@ -13,11 +13,11 @@ use Rattle.bits.specs.Mask.{testBit}
 use Rattle.lines.specs.Lines.{bytesOf, hexDigits, lineOf}
 use Rattle.pmp.specs.declared.Mode.{Mode}
 use Rattle.pmp.specs.declared.Access.{Access}
-use Rattle.pmp.specs.declared.Access.the-variants.{Load, Store}
+use Rattle.pmp.specs.declared.Access.the-variants.{Fetch, Load, Store}
 use Rattle.pmp.specs.declared.Decision.{Decision}
 use Rattle.pmp.specs.Number.{faultCause}
-use Rattle.pmp.specs.Entry.{top, entries, matches}
-use Rattle.pmp.specs.Rule.{none, ownerDecides, byteRule, isSize, ownerOf}
+use Rattle.pmp.specs.Entry.{matches}
+use Rattle.pmp.specs.Rule.{ownerDecides, byteRule, isSize, ownerOf}
 use Rattle.steps.specs.declared.Trap.the-variants.{Exception}
 use Rattle.steps.specs.declared.Operation.{Operation}
 use Rattle.steps.specs.declared.Operation.the-variants.{Read}
@@ -109,9 +109,9 @@ elapsedBy h cycles retired =
     (cond (testBit (c .mcountinhibit) 0) (c .mcycle) ((c .mcycle + cycles) % 2 ^ 64))
     (cond (testBit (c .mcountinhibit) 2) (c .minstret) ((c .minstret + retired) % 2 ^ 64)))
 
--- ---- loads and stores
+-- ---- accesses
 
--- the byte rule on all bytes of a load or store at once, in its effective mode
+-- the byte rule on all bytes of an access at once, in its effective mode
 abbrev pub ruleOn : Hart → Access → ℕ → ℕ → Decision
 ruleOn h access address size =
     byteRule (h .state .pmp .cfgs) (h .state .pmp .addrs) (effectiveMode (h .state .registers) access) access address size
@@ -126,12 +126,11 @@ pub record TrapsWith (h : Hart) (map : Map) (cause tval : ℕ) (after : Stepped)
       (levelOf (destination (h .state .registers) (Exception cause)) (after .hart .state .registers) .cause ≡ cause)
       × (levelOf (destination (h .state .registers) (Exception cause)) (after .hart .state .registers) .tval ≡ tval)
 
--- an access of this kind at any address, of any of the four sizes: one decision, and where that is a fault this cause and the first byte's address
-abbrev pub OneAccess : Access → ℕ → Type 0
-OneAccess access cause =
-    (h : Hart) (map : Map) (address size : ℕ) → canHold (h .state) ≡ true → isSize size ≡ true
-    → ((ruleOn h access address size ≡ Decision.Granted) × (stepped h map (AccessStep access address size) ≡ handedBack h map Granted))
-    ⊎ ((ruleOn h access address size ≡ Decision.Fault cause) × TrapsWith h map cause address (stepped h map (AccessStep access address size)))
+-- a step that is one access: one decision on all its bytes, and where that is a fault this cause and the first byte's address
+abbrev pub OneAccess : Hart → Map → Access → ℕ → ℕ → ℕ → Stepped → Type 0
+OneAccess h map access cause address size after =
+    ((ruleOn h access address size ≡ Decision.Granted) × (after ≡ handedBack h map Granted))
+    ⊎ ((ruleOn h access address size ≡ Decision.Fault cause) × TrapsWith h map cause address after)
 
 -- ---- the saved text
 
@@ -212,10 +211,10 @@ joined (l ∷ ls) = bytesOf l ++ 10 ∷ joined ls
 
 -- ---- owners
 
--- an owner is the lowest entry that matches the byte, or none
+-- an owner is the lowest of the sixteen entries that matches the byte, or none, which is 16
 pub record LowestOwner (cfgs addrs : List ℕ) (byte owner : ℕ) : Type 0 where
-  pub bound : owner ≤ none
-  pub matching : owner < entries → matches cfgs addrs owner byte ≡ true
+  pub bound : owner ≤ 16
+  pub matching : owner < 16 → matches cfgs addrs owner byte ≡ true
   pub lowest : (i : ℕ) → i < owner → matches cfgs addrs i byte ≡ false
 
 -- ---- all of them
@@ -240,16 +239,21 @@ pub record Consequences : Type 0 where
   pub mcycle-left : OthersLeave 0xB00 (λ c. c .mcycle)
   pub minstret-left : OthersLeave 0xB02 (λ c. c .minstret)
   -- "A misaligned load or store is one access (house). A granted access changes nothing." "Faults: fetch 1, load 5, store 7, tval the first byte's address."
-  pub load : OneAccess Load 5
-  pub store : OneAccess Store 7
+  pub load : (h : Hart) (map : Map) (address size : ℕ) → canHold (h .state) ≡ true → isSize size ≡ true
+      → OneAccess h map Load 5 address size (stepped h map (AccessStep Load address size))
+  pub store : (h : Hart) (map : Map) (address size : ℕ) → canHold (h .state) ≡ true → isSize size ≡ true
+      → OneAccess h map Store 7 address size (stepped h map (AccessStep Store address size))
+  -- "fetch of 4 bytes at pc", "arguments not named are ignored"
+  pub fetch : (h : Hart) (map : Map) (a b : ℕ) → canHold (h .state) ≡ true
+      → OneAccess h map Fetch 1 (h .state .registers .pc) 4 (stepped h map (AccessStep Fetch a b))
   -- "Any byte at or above 2^56: access fault in every mode (house). Else the lowest entry matching any byte decides: it must match all bytes, or fault,
   -- even in M with L=0": bytes of two owners fault, bytes of one are decided by it
-  pub beyond : (cfgs addrs : List ℕ) (mode : Mode) (access : Access) (address size : ℕ) → 0 < size → top < address + size
+  pub beyond : (cfgs addrs : List ℕ) (mode : Mode) (access : Access) (address size : ℕ) → 0 < size → 2 ^ 56 < address + size
       → byteRule cfgs addrs mode access address size ≡ Decision.Fault (faultCause access)
-  pub two-owners : (cfgs addrs : List ℕ) (mode : Mode) (access : Access) (address size b d : ℕ) → address + size ≤ top
+  pub two-owners : (cfgs addrs : List ℕ) (mode : Mode) (access : Access) (address size b d : ℕ) → address + size ≤ 2 ^ 56
       → address ≤ b → b < address + size → address ≤ d → d < address + size → (ownerOf cfgs addrs b ≡ ownerOf cfgs addrs d → ⊥)
       → byteRule cfgs addrs mode access address size ≡ Decision.Fault (faultCause access)
-  pub one-owner : (cfgs addrs : List ℕ) (mode : Mode) (access : Access) (address size owner : ℕ) → 0 < size → address + size ≤ top
+  pub one-owner : (cfgs addrs : List ℕ) (mode : Mode) (access : Access) (address size owner : ℕ) → 0 < size → address + size ≤ 2 ^ 56
       → ((byte : ℕ) → address ≤ byte → byte < address + size → ownerOf cfgs addrs byte ≡ owner)
       → byteRule cfgs addrs mode access address size ≡ ownerDecides cfgs mode access owner
   -- "owner being the lowest entry matching each byte or none"
