@@ -4,7 +4,7 @@ use Rattle.replay_stream.proofs.from_text.Statement.{statement}
 use Rattle.replay_stream.proofs.from_text.Tie as tie
 
 returns : tie.Need-returns
-returns c = from-start (c .before .from-text .ensures) (c .replay .ensures)
+returns c = search (needs, from-start)
 
 pub from-text-spec : {M : Type 1} → statement M
 from-text-spec = tie.close (tie.spec (λ c κs. search needs) (λ c κs. search needs) returns)
