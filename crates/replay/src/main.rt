@@ -5,8 +5,14 @@ use libc::STDOUT_FILENO;
 
 fn usage(fd: i32) {
     io::write_all(fd, b"usage: replay [START] <TRACE\n");
-    io::write_all(fd, b"Replays a trace from the saved text in the file START, or from reset.\n");
-    io::write_all(fd, b"Output is whole if its last line is `left N`, or `refused 4` or `refused 5` alone.\n");
+    io::write_all(
+        fd,
+        b"Replays a trace from the saved text in the file START, or from reset.\n",
+    );
+    io::write_all(
+        fd,
+        b"Output is whole if its last line is `left N`, or `refused 4` or `refused 5` alone.\n",
+    );
 }
 
 // Tells what is wrong with the arguments. Nothing goes to standard output.
