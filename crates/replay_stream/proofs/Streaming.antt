@@ -9,7 +9,7 @@ use lib.ListN.{length, length-append}
 use borrow.Author.Tests.{le-ltb}
 use Rattle.trace.specs.declared.Session.{Session}
 use Rattle.trace.specs.declared.Fed.{Fed}
-use Rattle.trace.specs.Sessions.{fed, pieceRoom, afterPiece, afterPieces, textSession}
+use Rattle.trace.specs.Sessions.{fed, pieceRoom, afterPiece, textSession}
 use Rattle.trace.proofs.Sessions.{pieces-none, pieces-more}
 use Rattle.replay_stream.specs.declared.Stream.{Stream}
 use Rattle.replay_stream.specs.Streams.{OnePiece, Going, Streamed, FromFile, mostPieces}

@@ -2,7 +2,7 @@
 use Prim.Native.Nat.{ℕ, _+_, _*_, _/_, _%_, _<_}
 use mathlib.Core.Path.{_≡_, refl, sym, ap, _∙_}
 use mathlib.Core.Bool.{Bool, true, false, cond, not, _&&_}
-use mathlib.Core.List.{List, [], _∷_, _++_, append-assoc, append-nil}
+use mathlib.Core.List.{List, [], _∷_, _++_, append-assoc}
 use native.Mathlib.Omega.{arith}
 use lib.Dec.{eqb}
 use lib.ListN.{length, length-append}
@@ -15,7 +15,7 @@ use Rattle.trace.specs.declared.Session.{Session}
 use Rattle.trace.specs.Answers.{answerLine}
 use Rattle.trace.specs.Batches.{recordsOf, afterRecords, recordLines, afterInput, inputLines}
 use Rattle.trace.specs.Endings.{ending, leftOver}
-use Rattle.trace.specs.Sessions.{fullPiece, continued, afterPiece, pieceLines, sessionEnding, afterPieces, piecesLines, written}
+use Rattle.trace.specs.Sessions.{fullPiece, continued, afterPiece, pieceLines, sessionEnding, afterPieces, piecesLines, allWritten}
 use Rattle.trace.specs.AnyCut.{replayed, joined, AllFull, AnyCut}
 use Rattle.trace.proofs.Batching.{stopped-still}
 use Rattle.trace.proofs.Cutting.{records-cut, lines-cut}
@@ -32,15 +32,15 @@ module _ (s : Session) (h : s .more ≡ false) where
       let r = pieces-still ps in
       ((λ j. afterPieces (e .0 j) ps) ∙ r .0, (λ j. e .1 j ++ piecesLines (e .0 j) ps) ∙ r .1)
 
-  ended-writes : (ps : List (List ℕ)) → written s ps ≡ sessionEnding s
+  ended-writes : (ps : List (List ℕ)) → allWritten s ps ≡ sessionEnding s
   ended-writes ps = let e = pieces-still ps in λ j. e .1 j ++ sessionEnding (e .0 j)
 
-written-append : (s : Session) (ps qs : List (List ℕ)) → written s (ps ++ qs) ≡ piecesLines s ps ++ written (afterPieces s ps) qs
+written-append : (s : Session) (ps qs : List (List ℕ)) → allWritten s (ps ++ qs) ≡ piecesLines s ps ++ allWritten (afterPieces s ps) qs
 written-append s ps qs =
     (λ j. outputs-append afterPiece pieceLines s ps qs j ++ sessionEnding (fold-append afterPiece s ps qs j))
     ∙ append-assoc (piecesLines s ps) (piecesLines (afterPieces s ps) qs) (sessionEnding (afterPieces (afterPieces s ps) qs))
 
-written-cons : (s : Session) (p : List ℕ) (ps : List (List ℕ)) → written s (p ∷ ps) ≡ pieceLines s p ++ written (afterPiece s p) ps
+written-cons : (s : Session) (p : List ℕ) (ps : List (List ℕ)) → allWritten s (p ∷ ps) ≡ pieceLines s p ++ allWritten (afterPiece s p) ps
 unfolding fold outputs
 written-cons s p ps = append-assoc (pieceLines s p) (piecesLines (afterPiece s p) ps) (sessionEnding (afterPieces (afterPiece s p) ps))
 
@@ -84,17 +84,17 @@ unfolding sessionEnding
 none-written s h = rw h
 
 whole : (s : Session) (full : List (List ℕ)) (last : List ℕ) → s .more ≡ true → s .refusal ≡ 0 → AllFull full → length last < fullPiece
-    → written s (full ++ last ∷ []) ≡ replayed (s .replay) (joined full last)
+    → allWritten s (full ++ last ∷ []) ≡ replayed (s .replay) (joined full last)
 whole s [] last h z f l =
     let next = continued s (afterInput (s .replay) last) (length last) in
     let g = piece-goes s last h in
     let short : length last ≡ fullPiece → ⊥ = λ e. omega arith in
     let m : next .more ≡ false = rw (ne-eqb (length last) fullPiece short) in
-    written-cons s last [] ∙ (λ j. g .1 j ++ written (g .0 j) [])
+    written-cons s last [] ∙ (λ j. g .1 j ++ allWritten (g .0 j) [])
     ∙ ap (λ (t : List ℕ). inputLines (s .replay) last ++ t) (ended-writes next m [] ∙ ending-written next m z)
 whole s (p ∷ full) last h z f l =
     let g = piece-goes s p h in
-    written-cons s p (full ++ last ∷ []) ∙ (λ j. g .1 j ++ written (g .0 j) (full ++ last ∷ []))
+    written-cons s p (full ++ last ∷ []) ∙ (λ j. g .1 j ++ allWritten (g .0 j) (full ++ last ∷ []))
     ∙ ap (λ (t : List ℕ). inputLines (s .replay) p ++ t) (go (next .replay .stopped) refl (λ m. whole next full last m z (f .1) l))
     ∙ sym (replayed-front (s .replay) p (joined full last) (f .0))
   where
@@ -102,7 +102,7 @@ whole s (p ∷ full) last h z f l =
     next = continued s (afterInput (s .replay) p) (length p)
 
     Rest : Type 0
-    Rest = written next (full ++ last ∷ []) ≡ replayed (next .replay) (joined full last)
+    Rest = allWritten next (full ++ last ∷ []) ≡ replayed (next .replay) (joined full last)
 
     go : (b : Bool) → next .replay .stopped ≡ b → (next .more ≡ true → Rest) → Rest
     go true q rest =

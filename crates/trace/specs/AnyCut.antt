@@ -10,7 +10,7 @@ use Rattle.trace.specs.declared.Session.{Session}
 use Rattle.trace.specs.Answers.{answerLine}
 use Rattle.trace.specs.Batches.{afterInput, inputLines}
 use Rattle.trace.specs.Endings.{ending, leftOver}
-use Rattle.trace.specs.Sessions.{fullPiece, sessionEnding, afterPieces, written}
+use Rattle.trace.specs.Sessions.{fullPiece, sessionEnding, afterPieces, allWritten}
 
 -- a trace at once: the lines of its whole records, and the ending
 abbrev pub replayed : Replay → List ℕ → List ℕ
@@ -28,11 +28,11 @@ AllFull (piece ∷ pieces) = (length piece ≡ fullPiece) × AllFull pieces
 pub record AnyCut : Type 0 where
   -- full pieces and a shorter last one, from any session that has not ended
   pub whole : (start : Session) (full : List (List ℕ)) (last : List ℕ) → start .more ≡ true → start .refusal ≡ 0 → AllFull full → length last < fullPiece
-      → written start (full ++ last ∷ []) ≡ replayed (start .replay) (joined full last)
+      → allWritten start (full ++ last ∷ []) ≡ replayed (start .replay) (joined full last)
   -- after the end, as after a broken record, further pieces write nothing
-  pub ended : (start : Session) (pieces rest : List (List ℕ)) → afterPieces start pieces .more ≡ false → written start (pieces ++ rest) ≡ written start pieces
+  pub ended : (start : Session) (pieces rest : List (List ℕ)) → afterPieces start pieces .more ≡ false → allWritten start (pieces ++ rest) ≡ allWritten start pieces
   -- before it there is no ending
   pub unended : (start : Session) (pieces : List (List ℕ)) → afterPieces start pieces .more ≡ true → sessionEnding (afterPieces start pieces) ≡ []
   -- a refused text's line is all that is written
   pub refused : (start : Session) (pieces : List (List ℕ)) → start .more ≡ false → (start .refusal ≡ 0 → ⊥)
-      → written start pieces ≡ answerLine (Refused (start .refusal))
+      → allWritten start pieces ≡ answerLine (Refused (start .refusal))

@@ -1,6 +1,6 @@
 -- A replay whose trace comes in pieces: what is kept from piece to piece, the lines that each piece gives out, and what is written at the end.
 use Prim.Native.Nat.{ℕ, _*_, _/_}
-use mathlib.Core.Bool.{Bool, false, cond, not, _&&_}
+use mathlib.Core.Bool.{false, cond, not, _&&_}
 use mathlib.Core.List.{List, [], _++_}
 use lib.Dec.{eqb, ltb}
 use lib.ListN.{length}
@@ -81,5 +81,5 @@ afterPieces s pieces = fold afterPiece s pieces
 abbrev pub piecesLines : Session → List (List ℕ) → List ℕ
 piecesLines s pieces = outputs afterPiece pieceLines s pieces
 
-abbrev pub written : Session → List (List ℕ) → List ℕ
-written s pieces = piecesLines s pieces ++ sessionEnding (afterPieces s pieces)
+abbrev pub allWritten : Session → List (List ℕ) → List ℕ
+allWritten s pieces = piecesLines s pieces ++ sessionEnding (afterPieces s pieces)

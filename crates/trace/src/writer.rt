@@ -2,7 +2,6 @@
 use steps::Answer;
 use steps::Level;
 use steps::Trap;
-ghost use mathlib.Core.Path.{_≡_};
 ghost use mathlib.Core.List.{_++_};
 ghost use Prim.Native.Nat.{_+_, _≤_};
 ghost use lib.ListN.{length};

@@ -1,6 +1,5 @@
 -- The pieces are counted down from the largest number, so the reading ends. Assumes nothing.
 use mathlib.Core.Logic.{inl, inr, ⊎-elim}
-use native.Mathlib.Omega.{arith}
 use borrow.Author.Needs.{needs}
 use Rattle.replay_stream.specs.Streams.{Going}
 use Rattle.replay_stream.proofs.Streaming.{none-fed, one-fed, none-more, all-fed}

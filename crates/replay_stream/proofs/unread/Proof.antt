@@ -1,5 +1,4 @@
 use borrow.Author.Needs.{needs}
-use mathlib.Core.List.{[]}
 use Rattle.replay_stream.proofs.Streaming.{not-read}
 use Rattle.replay_stream.proofs.unread.Statement.{statement}
 use Rattle.replay_stream.proofs.unread.Tie as tie

@@ -1,7 +1,6 @@
 use mathlib.Core.Path.{ap, _∙_}
 use borrow.Author.Needs.{needs}
 use Rattle.hart.specs.declared.Mapped.{Mapped}
-use Rattle.hart.specs.declared.Stepped.{Stepped}
 use Rattle.hart.specs.Saved.{restored}
 use Rattle.trace.specs.Sessions.{sessionFrom, readSession, textSession}
 use Rattle.trace.proofs.Session.from_text.Statement.{statement}
