@@ -14,7 +14,7 @@ returns c =
     let z = b .before .before .before in
     let a = z .before .before .args in
     c .session-from .ensures ∙ (λ j. sessionFrom (b .restore .result .hart) (b .restore .result .map) (n .refusal-of .ensures j))
-    ∙ ap readSession (b .restore .ensures) ∙ ap (λ (m : Mapped). readSession (restored (m .hart) (m .map) (a .text .now))) (z .reset .ensures)
+    ∙ ap readSession (b .restore .ensures .0) ∙ ap (λ (m : Mapped). readSession (restored (m .hart) (m .map) (a .text .now))) (z .reset .ensures)
 
 pub from-text-spec : {M : Type 1} → statement M
 from-text-spec =
