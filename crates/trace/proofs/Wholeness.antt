@@ -16,7 +16,7 @@ use Rattle.trace.specs.Answers.{answerLine}
 use Rattle.trace.specs.Batches.{recordsOf, afterRecords, recordLines, afterInput, inputLines}
 use Rattle.trace.specs.Endings.{ending, leftOver}
 use Rattle.trace.specs.Sessions.{fullPiece, continued, afterPiece, pieceLines, sessionEnding, afterPieces, piecesLines, allWritten}
-use Rattle.trace.specs.AnyCut.{replayed, joined, AllFull, AnyCut}
+use Rattle.trace.specs.InPieces.{replayed, joined, AllFull, InPieces}
 use Rattle.trace.proofs.Batching.{stopped-still}
 use Rattle.trace.proofs.Cutting.{records-cut, lines-cut}
 use Rattle.trace.proofs.Sessions.{piece-still, piece-goes}
@@ -112,8 +112,8 @@ whole s (p ∷ full) last h z f l =
         ∙ sym (replayed-stopped (next .replay) (joined full last) q)
     go false q rest = rest (λ j. eqb (f .0 j) fullPiece && not (q j))
 
-pub any-cut : AnyCut
-any-cut = record {
+pub in-pieces : InPieces
+in-pieces = record {
   whole = whole;
   ended = λ s ps qs h.
       written-append s ps qs ∙ ap (λ (l : List ℕ). piecesLines s ps ++ l) (ended-writes (afterPieces s ps) h qs);

@@ -5,4 +5,4 @@ pub mod Answers
 pub mod Batches
 pub mod Endings
 pub mod Sessions
-pub mod AnyCut
+pub mod InPieces

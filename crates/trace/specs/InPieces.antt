@@ -1,4 +1,4 @@
--- A claim over whole traces: in whatever pieces a trace comes, what is written for them is what the trace at once gives.
+-- A claim over whole traces: full pieces and a shorter last one write what the trace at once gives.
 use Prim.Native.Nat.{ℕ, _<_}
 use mathlib.Core.Path.{_≡_}
 use mathlib.Core.Bool.{true, false}
@@ -25,7 +25,7 @@ abbrev pub AllFull : List (List ℕ) → Type 0
 AllFull [] = Unit {0}
 AllFull (piece ∷ pieces) = (length piece ≡ fullPiece) × AllFull pieces
 
-pub record AnyCut : Type 0 where
+pub record InPieces : Type 0 where
   -- full pieces and a shorter last one, from any session that has not ended
   pub whole : (start : Session) (full : List (List ℕ)) (last : List ℕ) → start .more ≡ true → start .refusal ≡ 0 → AllFull full → length last < fullPiece
       → allWritten start (full ++ last ∷ []) ≡ replayed (start .replay) (joined full last)
