@@ -23,7 +23,7 @@ pub record Going (start here : Session) (turns : ℕ) : Type 0 where
   pub session : here ≡ afterPieces start pieces
   pub count : length pieces + turns ≡ mostPieces
 
--- unless reading or writing failed, the pieces are read to the end of the session
+-- unless reading or writing failed, the session has ended, or as many pieces as are counted have been fed
 pub record Streamed (start : Session) (r : Stream) : Type 0 where
   pub pieces : List (List ℕ)
   pub session : r .session ≡ afterPieces start pieces
