@@ -1,11 +1,12 @@
 -- Steps, queries, saves and readings of a text are refused exactly when the table says, and a refusal changes nothing. Assumes nothing.
 use Prim.Native.Nat.{ℕ}
 use mathlib.Core.Path.{_≡_, refl, sym, ap, _∙_}
-use mathlib.Core.Bool.{Bool, true, false, cond, _||_}
+use mathlib.Core.Bool.{Bool, true, false, cond, not, _||_}
 use mathlib.Core.List.{List, _++_}
 use mathlib.Core.Logic.{⊎-elim}
 use mathlib.Core.Option.{Option, none, some, Option·some-injective, Option·none-ne-some}
-use lib.Dec.{leb, ltb}
+use lib.Bits.{bitAnd}
+use lib.Dec.{eqb, leb, ltb}
 use lib.ListN.{length, drop}
 use Rattle.bits.proofs.Conjunction.{contradiction}
 use Rattle.pmp.specs.declared.Mode.{Mode}
@@ -18,6 +19,8 @@ use Rattle.pmp.specs.Rule.{isSize, ownerDecides, byteRule, checked, none as noO
 use Rattle.pmp.specs.Number.{faultCause}
 use Rattle.pmp.proofs.Answered.{GrantOrFault, owner-answers, rule-answers}
 use Rattle.steps.specs.declared.Operation.{Operation}
+use Rattle.steps.specs.declared.Event.{Event}
+use Rattle.steps.specs.declared.Event.the-variants.{Raise, Lines, TakeInterrupt, Mret, Sret, Wfi, Ecall, Ebreak, Advance, Elapsed}
 use Rattle.steps.specs.declared.Step.{Step}
 use Rattle.steps.specs.declared.Step.the-variants.{Reset, Csr, Access as AccessStep, Event as EventStep}
 use Rattle.steps.specs.declared.Answer.{Answer}
@@ -32,7 +35,7 @@ use Rattle.state.specs.Words.{wordsOf, stateOf}
 use Rattle.csr.specs.Permit.{illegal}
 use Rattle.trap.specs.declared.Outcome.{Outcome}
 use Rattle.trap.specs.Enter.{raised, illegalInstruction}
-use Rattle.trap.specs.Events.{eventStep, eventRefused}
+use Rattle.trap.specs.Events.{eventStep}
 use Rattle.trap.proofs.Quiet.{refuses, Quiet, raised-quiet, event-quiet}
 use Rattle.map.specs.declared.Map.{Map}
 use Rattle.map.specs.declared.Found.{Found}
@@ -61,6 +64,7 @@ use Rattle.hart.specs.Queries.{queryAnswer}
 use Rattle.hart.specs.Saved.{savedAnswer, savedBuffer, restoredDone, restoredWords, restored}
 use Rattle.claims.specs.Refusals.{
   sizeRefusal,
+  eventRefusal,
   argumentRefusal,
   stepRefusal,
   rangeRefusal,
@@ -119,9 +123,22 @@ Refuses s none e = refuses (e .answer) ≡ false
 Refuses s (some n) e = e ≡ refused s n
 
 module _ (s : State) where
-  on-registers : (b : Bool) (o : Outcome) → Quiet (s .registers) b o → Refuses s (cond b (some 2) none) (onRegisters s o)
-  on-registers true o q = ap (onRegisters s) q
-  on-registers false o q = q
+  -- an event that passes its test is not refused
+  unless : (b : Bool) (o : Outcome) → Quiet (s .registers) (not b) o → Refuses s (cond b none (some 2)) (onRegisters s o)
+  unless true o q = q
+  unless false o q = ap (onRegisters s) q
+
+  event-refuses : (event : Event) → Refuses s (eventRefusal event) (onRegisters s (eventStep (s .registers) event))
+  event-refuses (Raise cause tval) = unless (leb cause 7) _ (event-quiet (s .registers) (Raise cause tval))
+  event-refuses (Lines lines) = unless (eqb (bitAnd lines 0xA88) lines) _ (event-quiet (s .registers) (Lines lines))
+  event-refuses TakeInterrupt = event-quiet (s .registers) TakeInterrupt
+  event-refuses Mret = event-quiet (s .registers) Mret
+  event-refuses Sret = event-quiet (s .registers) Sret
+  event-refuses Wfi = event-quiet (s .registers) Wfi
+  event-refuses Ecall = event-quiet (s .registers) Ecall
+  event-refuses Ebreak = event-quiet (s .registers) Ebreak
+  event-refuses (Advance target) = event-quiet (s .registers) (Advance target)
+  event-refuses (Elapsed cycles retired) = event-quiet (s .registers) (Elapsed cycles retired)
 
   csr-refuses : (op : Operation) (number operand : ℕ) → Refuses s (cond (ltb 4095 number) (some 2) none) (csrStep s op number operand)
   unfolding csrStep
@@ -160,7 +177,7 @@ module _ (s : State) where
   effect-refuses Reset = refl
   effect-refuses (Csr op number operand) = csr-refuses op number operand
   effect-refuses (AccessStep access address size) = access-step-refuses access address size
-  effect-refuses (EventStep event) = on-registers (eventRefused event) (eventStep (s .registers) event) (event-quiet (s .registers) event)
+  effect-refuses (EventStep event) = event-refuses event
 
 -- ---- the step with its map
 

@@ -1,26 +1,26 @@
 -- 01, "Steps": the table of refusals and its order. A refusal returns its number and no more, and changes nothing.
-use Prim.Native.Nat.{ℕ}
+use Prim.Native.Nat.{ℕ, _^_}
 use mathlib.Core.Path.{_≡_}
-use mathlib.Core.Bool.{cond}
+use mathlib.Core.Bool.{Bool, cond, _||_}
 use mathlib.Core.List.{List}
 use mathlib.Core.Logic.{_↔_}
 use mathlib.Core.Option.{Option, none, some}
-use lib.Dec.{leb, ltb}
+use lib.Bits.{bitAnd}
+use lib.Dec.{eqb, leb, ltb}
 use lib.ListN.{length}
 use Rattle.pmp.specs.declared.Mode.{Mode}
 use Rattle.pmp.specs.declared.Access.{Access}
 use Rattle.pmp.specs.declared.Access.the-variants.{Fetch, Load, Store}
 use Rattle.pmp.specs.declared.Decision.{Decision}
 use Rattle.pmp.specs.Search.{anyByte}
-use Rattle.pmp.specs.Entry.{top}
-use Rattle.pmp.specs.Rule.{isSize, none as noOwner}
+use Rattle.steps.specs.declared.Event.{Event}
+use Rattle.steps.specs.declared.Event.the-variants.{Raise, Lines, TakeInterrupt, Mret, Sret, Wfi, Ecall, Ebreak, Advance, Elapsed}
 use Rattle.steps.specs.declared.Step.{Step}
 use Rattle.steps.specs.declared.Step.the-variants.{Reset, Csr, Access as AccessStep, Event as EventStep}
 use Rattle.steps.specs.declared.Answer.the-variants.{Refused}
 use Rattle.state.specs.declared.State.{State}
 use Rattle.state.specs.Hold.{canHold}
 use Rattle.state.specs.Words.{stateOf}
-use Rattle.trap.specs.Events.{eventRefused}
 use Rattle.map.specs.declared.Map.{Map}
 use Rattle.map.specs.declared.Found.{Found}
 use Rattle.map.specs.declared.Found.the-variants.{At, Nothing}
@@ -34,34 +34,51 @@ use Rattle.hart.specs.Saved.{savedAnswer, savedBuffer, restored}
 
 -- ---- the table: the number of the refusal, or none
 
+-- 1, 2, 4 or 8
+abbrev pub sizeNamed : ℕ → Bool
+sizeNamed size = eqb size 1 || (eqb size 2 || (eqb size 4 || eqb size 8))
+
 -- 1: step 15 or 16 has a size other than 1, 2, 4, 8
 abbrev pub sizeRefusal : Access → ℕ → Option ℕ
 sizeRefusal Fetch size = none
-sizeRefusal Load size = cond (isSize size) none (some 1)
-sizeRefusal Store size = cond (isSize size) none (some 1)
+sizeRefusal Load size = cond (sizeNamed size) none (some 1)
+sizeRefusal Store size = cond (sizeNamed size) none (some 1)
 
--- 2: CSR number above 4095; raise cause above 7; lines outside 0xA88
+-- 2: raise cause above 7; lines outside 0xA88
+abbrev pub eventRefusal : Event → Option ℕ
+eventRefusal (Raise cause tval) = cond (leb cause 7) none (some 2)
+eventRefusal (Lines lines) = cond (eqb (bitAnd lines 0xA88) lines) none (some 2)
+eventRefusal TakeInterrupt = none
+eventRefusal Mret = none
+eventRefusal Sret = none
+eventRefusal Wfi = none
+eventRefusal Ecall = none
+eventRefusal Ebreak = none
+eventRefusal (Advance target) = none
+eventRefusal (Elapsed cycles retired) = none
+
+-- 2: CSR number above 4095
 abbrev pub argumentRefusal : Step → Option ℕ
 argumentRefusal Reset = none
 argumentRefusal (Csr op number operand) = cond (ltb 4095 number) (some 2) none
 argumentRefusal (AccessStep access address size) = sizeRefusal access size
-argumentRefusal (EventStep event) = cond (eventRefused event) (some 2) none
+argumentRefusal (EventStep event) = eventRefusal event
 
 -- 3 before 1 and 2: the state given is not one a hart can hold; step 0 is never refused
 abbrev pub stepRefusal : State → Step → Option ℕ
 stepRefusal s step = cond (isReset step) none (cond (canHold s) (argumentRefusal step) (some 3))
 
--- 7: no range holds the first byte, or the owner of the range read is not 0 to 15 or "none"
+-- 7: no range holds the first byte, or the owner of the range read is not 0 to 15 or "none", which is 16
 abbrev pub rangeRefusal : Found → Option ℕ
 rangeRefusal Nothing = some 7
-rangeRefusal (At r) = cond (leb (r .owner) noOwner) none (some 7)
+rangeRefusal (At r) = cond (leb (r .owner) 16) none (some 7)
 
 -- 3 before 1, and 1 before 7, which is given where all bytes lie below 2^56
 abbrev pub queryRefusal : State → Map → ℕ → ℕ → Option ℕ
 queryRefusal s map address size =
     cond (canHold s)
-    (cond (isSize size)
-    (cond (anyByte (leb top) size address) none (rangeRefusal (findRange (rangesIn map) address)))
+    (cond (sizeNamed size)
+    (cond (anyByte (leb (2 ^ 56)) size address) none (rangeRefusal (findRange (rangesIn map) address)))
     (some 1))
     (some 3)
 
