@@ -36,7 +36,7 @@ step-keeps =
       holdable = λ s step p. rule-holds s p step;
       reset = reset-given;
       mapless = λ h map step.
-        (ap (λ (r : Stepped). r .hart .state) (step-parts h map step), ap (λ (r : Stepped). r .answer) (step-parts h map step));
+          (ap (λ (r : Stepped). r .hart .state) (step-parts h map step), ap (λ (r : Stepped). r .answer) (step-parts h map step));
       map-kept = map-kept;
       map-anew = map-anew;
     }

@@ -22,7 +22,7 @@ use Rattle.trap.specs.Enter.{raised, raiseStep}
 use Rattle.trap.specs.Interrupt.{linesStep, takeable, firstOf, priority, takenBy, interruptTaken}
 use Rattle.trap.specs.Return.{mayReturn, returnStep, mayWait, waited}
 use Rattle.trap.specs.Time.{advanced, elapsed}
-use Rattle.trap.specs.Events.{eventStep, eventRefused}
+use Rattle.trap.specs.Events.{eventStep}
 
 -- the answer is a refusal
 abbrev pub refuses : Answer → Bool
@@ -32,6 +32,19 @@ refuses (DoneFlag flag) = false
 refuses Granted = false
 refuses (Trapped trap level) = false
 refuses (Refused number) = true
+
+-- raise cause above 7; lines outside their mask
+abbrev refused : Event → Bool
+refused (Raise cause tval) = not (leb cause 7)
+refused (Lines lines) = not (within linesMask lines)
+refused TakeInterrupt = false
+refused Mret = false
+refused Sret = false
+refused Wfi = false
+refused Ecall = false
+refused Ebreak = false
+refused (Advance target) = false
+refused (Elapsed cycles retired) = false
 
 -- where the table refuses, the answer is refusal 2 and the registers are what went in; else it is no refusal
 abbrev pub Quiet : Registers → Bool → Outcome → Type 0
@@ -56,7 +69,7 @@ module _ (r : Registers) where
   unfolding returnStep
   return-quiet level = by-test (Quiet r false) (mayReturn level r) _ _ (λ t. refl) (λ t. raised-quiet 2 0)
 
-  pub event-quiet : (event : Event) → Quiet r (eventRefused event) (eventStep r event)
+  pub event-quiet : (event : Event) → Quiet r (refused event) (eventStep r event)
   unfolding raiseStep linesStep interruptTaken waited advanced elapsed
   event-quiet (Raise cause tval) = unless-refused (leb cause 7) _ (raised-quiet cause tval)
   event-quiet (Lines lines) = unless-refused (within linesMask lines) _ refl
