@@ -1,4 +1,5 @@
 -- The claims, proved.
+pub mod NumberLaws
 pub mod RefusalLaws
 pub mod StepKeeping
 pub mod Texts
