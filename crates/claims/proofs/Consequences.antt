@@ -1,6 +1,6 @@
 -- Sentences of 01 that rest on more than one definition hold. Assumes nothing.
 use Prim.Native.Nat.{ℕ}
-use mathlib.Core.Path.{_≡_, refl}
+use mathlib.Core.Path.{_≡_, refl, _∙_}
 use mathlib.Core.List.{List}
 use native.Mathlib.Omega.{arith}
 use lib.ListN.{take}
@@ -25,6 +25,8 @@ use Rattle.claims.specs.Consequences.{keyed, keyedText, resetLines, join
 use Rattle.claims.proofs.OneValue.{zero-step, zero-readable, misa-step, fixed-step, fixed-writable}
 use Rattle.claims.proofs.Counting.{mcycle-left, minstret-left, elapsed-counts}
 use Rattle.claims.proofs.OneAccess.{one-load, one-store, one-fetch}
+use Rattle.claims.proofs.Deciding.{entry-decides, cause-for, none-decides, effective-mode}
+use Rattle.claims.proofs.Querying.{range-found, range-missing, query-decides}
 
 -- ---- the saved text
 
@@ -67,9 +69,14 @@ consequences =
       load = one-load;
       store = one-store;
       fetch = one-fetch;
-      beyond = beyond-faults;
-      two-owners = λ cfgs addrs mode access address size. two-owners cfgs addrs address size mode access;
+      beyond = λ cfgs addrs mode access address size p h. beyond-faults cfgs addrs mode access address size p h ∙ cause-for access;
+      two-owners = λ cfgs addrs mode access address size b d m p q u v n.
+          two-owners cfgs addrs address size mode access b d m p q u v n ∙ cause-for access;
       one-owner = λ cfgs addrs mode access address size. one-owner cfgs addrs address size mode access;
+      entry-decides = entry-decides;
+      none-decides = none-decides;
+      effective-mode = effective-mode;
+      mode-numbers = (refl, refl, refl);
       owner = owner;
       lines = λ s. (saved-lines s, refl, text-length (wordsOf s));
       digits = word-digits;
@@ -79,4 +86,7 @@ consequences =
       unread = refused-none;
       map-laid = map-laid;
       map-count = compiled-count;
+      range-found = range-found;
+      range-missing = range-missing;
+      query-decides = query-decides;
     }
