@@ -1,7 +1,7 @@
 -- Sentences of 01 that rest on more than one definition hold. Assumes nothing.
 use Prim.Native.Nat.{ℕ}
 use mathlib.Core.Path.{_≡_, refl, _∙_}
-use mathlib.Core.List.{List}
+use mathlib.Core.List.{List, [], _∷_}
 use native.Mathlib.Omega.{arith}
 use lib.ListN.{take}
 use Rattle.bits.specs.Lists.{elements}
@@ -22,11 +22,11 @@ use Rattle.text.proofs.Laws.{read-text, text-read, read-words, refused-none}
 use Rattle.hart.specs.Steps.{hartWith}
 use Rattle.hart.specs.Saved.{textFor}
 use Rattle.claims.specs.Consequences.{keyed, keyedText, resetLines, joined, LowestOwner, Consequences}
-use Rattle.claims.proofs.OneValue.{zero-step, zero-readable, misa-step, fixed-step, fixed-writable}
+use Rattle.claims.proofs.OneValue.{zero-step, zero-readable, misa-step, fixed-step, fixed-writable, lowest-first, config-steps}
 use Rattle.claims.proofs.Counting.{mcycle-left, minstret-left, elapsed-counts}
 use Rattle.claims.proofs.OneAccess.{one-load, one-store, one-fetch}
 use Rattle.claims.proofs.Deciding.{entry-decides, cause-for, none-decides, effective-mode}
-use Rattle.claims.proofs.Querying.{range-found, range-missing, query-decides}
+use Rattle.claims.proofs.Querying.{count-read, range-found, range-missing, query-decides}
 
 -- ---- the saved text
 
@@ -37,6 +37,10 @@ saved-lines s = refl
 word-digits : hexDigits 16 0x0123456789ABCDEF ≡ bytesOf "0123456789abcdef"
 unfolding bytesOf hexDigits
 word-digits = refl
+
+packed-bytes : packed (1 ∷ 2 ∷ 3 ∷ 4 ∷ 5 ∷ 6 ∷ 7 ∷ 8 ∷ []) ≡ 0x0807060504030201
+unfolding packed
+packed-bytes = refl
 
 reset-text : textFor (hartWith resetState) ≡ joined resetLines
 unfolding bytesOf hexDigits lineOf linesOf keys textOf packed elements wordsOf
@@ -61,6 +65,10 @@ consequences =
       reads-zero = zero-step;
       readable = zero-readable;
       reads-misa = misa-step;
+      reads-configs = λ p. (refl, refl);
+      lowest-first = lowest-first;
+      packed-bytes = packed-bytes;
+      config-steps = config-steps;
       ignores-writes = fixed-step;
       writable = fixed-writable;
       elapsed-counts = elapsed-counts;
@@ -89,4 +97,5 @@ consequences =
       range-found = range-found;
       range-missing = range-missing;
       query-decides = query-decides;
+      count-read = count-read;
     }

@@ -1,11 +1,12 @@
 -- A query reads the lowest-numbered range that holds the first byte; whether that range holds all bytes decides. Assumes nothing.
-use Prim.Native.Nat.{ℕ, _+_, _^_, _≤_, _<_}
+use Prim.Native.Nat.{ℕ, _+_, _^_, _≤_, _<_, min}
 use mathlib.Core.Path.{_≡_, refl, ap, _∙_}
 use mathlib.Core.Bool.{Bool, true, false, cond}
 use mathlib.Core.List.{List, [], _∷_}
 use mathlib.Core.Logic.{_⊎_, inl, inr}
 use native.Mathlib.Omega.{arith}
 use lib.Dec.{leb}
+use lib.ListN.{take}
 use borrow.Author.Tests.{le-leb, lt-leb}
 use Rattle.bits.proofs.Conjunction.{contradiction}
 use Rattle.pmp.specs.declared.Mode.{Mode}
@@ -25,6 +26,15 @@ use Rattle.hart.specs.declared.Hart.{Hart}
 use Rattle.hart.specs.Queries.{queryAnswer}
 use Rattle.claims.specs.Consequences.{causeFor, NoneHolds, LowestHolding, Sized}
 use Rattle.claims.proofs.Deciding.{cause-for}
+
+-- ---- the ranges read
+
+pub count-read : (m : Map) → rangesIn m ≡ take (cond (leb (m .count) 33) (m .count) 33) (m .ranges)
+count-read m = go (less 33 (m .count))
+  where
+    go : (33 < m .count) ⊎ (m .count ≤ 33) → rangesIn m ≡ take (cond (leb (m .count) 33) (m .count) 33) (m .ranges)
+    go (inl x) = let e : min (m .count) 33 ≡ 33 = omega arith in rw (lt-leb (m .count) 33 x, e)
+    go (inr x) = let e : min (m .count) 33 ≡ m .count = omega arith in rw (le-leb (m .count) 33 x, e)
 
 -- ---- the range read
 

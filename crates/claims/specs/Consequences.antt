@@ -1,6 +1,6 @@
 -- Sentences of 01 that rest on more than one definition, each as a law in 01's own numbers: registers of one value, the counters, accesses,
 -- the saved text, the map.
-use Prim.Native.Nat.{ℕ, _+_, _/_, _%_, _^_, _≤_, _<_}
+use Prim.Native.Nat.{ℕ, _+_, _*_, _/_, _%_, _^_, _≤_, _<_}
 use Prim.Native.String.{String}
 use mathlib.Core.Path.{_≡_}
 use mathlib.Core.Bool.{Bool, true, false, cond, not, _&&_, _||_}
@@ -31,7 +31,9 @@ use Rattle.registers.specs.declared.Counters.{Counters}
 use Rattle.registers.specs.declared.Registers.{Registers}
 use Rattle.registers.specs.Effective.{effectiveMode}
 use Rattle.registers.specs.Update.{levelOf, withPc, withCounters}
+use Rattle.protection.specs.declared.Pmp.{Pmp}
 use Rattle.protection.specs.Configs.{packed}
+use Rattle.protection.specs.Read.{pmpRead}
 use Rattle.state.specs.declared.State.{State}
 use Rattle.state.specs.Hold.{canHold, resetState}
 use Rattle.csr.specs.Permit.{between, attemptsWrite, illegal}
@@ -276,6 +278,15 @@ pub record Consequences : Type 0 where
   -- "misa (301) reads 0x8000000000141101"
   pub reads-misa : (h : Hart) (map : Map) (op : Operation) (operand : ℕ) → canHold (h .state) ≡ true
       → illegal (h .state .registers) op 0x301 ≡ false → stepped h map (Csr op 0x301 operand) ≡ movedOn h map 0x8000000000141101
+  -- "3A0 and 3A2 are pmpcfg0 and pmpcfg2, entry 0 in the lowest byte"
+  pub reads-configs : (p : Pmp) → (pmpRead p 0x3A0 ≡ packed (take 8 (p .cfgs))) × (pmpRead p 0x3A2 ≡ packed (drop 8 (p .cfgs)))
+  pub lowest-first : (b c d e f g i j : ℕ)
+      → packed (b ∷ c ∷ d ∷ e ∷ f ∷ g ∷ i ∷ j ∷ [])
+      ≡ b + 2 ^ 8 * c + 2 ^ 16 * d + 2 ^ 24 * e + 2 ^ 32 * f + 2 ^ 40 * g + 2 ^ 48 * i + 2 ^ 56 * j
+  pub packed-bytes : packed (1 ∷ 2 ∷ 3 ∷ 4 ∷ 5 ∷ 6 ∷ 7 ∷ 8 ∷ []) ≡ 0x0807060504030201
+  pub config-steps : (h : Hart) (map : Map) (operand : ℕ) → canHold (h .state) ≡ true → h .state .registers .mode ≡ 3
+      → (stepped h map (Csr Read 0x3A0 operand) ≡ movedOn h map (packed (take 8 (h .state .pmp .cfgs))))
+      × (stepped h map (Csr Read 0x3A2 operand) ≡ movedOn h map (packed (drop 8 (h .state .pmp .cfgs))))
   -- "A write to 301, 323 to 33F, B03 to B1F, 30A, 10A or 180 is done and changes nothing"; it is illegal only below bits 9:8, or of 180 in S with TVM=1
   pub ignores-writes : (h : Hart) (map : Map) (op : Operation) (number operand : ℕ) → canHold (h .state) ≡ true
       → illegal (h .state .registers) op number ≡ false → ignoresWrites number ≡ true
@@ -339,3 +350,5 @@ pub record Consequences : Type 0 where
       → Sized size → address + size ≤ 2 ^ 56 → findRange (rangesIn map) address ≡ At r → r .owner ≤ 16
       → queryAnswer h map mode access address size
       ≡ cond (leb (address + size) (r .last + 1)) (ownerDecides (h .state .pmp .cfgs) mode access (r .owner)) (Decision.Fault (causeFor access))
+  -- "A count above 33 is read as 33."
+  pub count-read : (m : Map) → rangesIn m ≡ take (cond (leb (m .count) 33) (m .count) 33) (m .ranges)
