@@ -26,7 +26,7 @@ use Rattle.claims.proofs.OneValue.{zero-step, zero-readable, misa-step,
 use Rattle.claims.proofs.Counting.{mcycle-left, minstret-left, elapsed-counts}
 use Rattle.claims.proofs.OneAccess.{one-load, one-store, one-fetch}
 use Rattle.claims.proofs.Deciding.{entry-decides, cause-for, none-decides, effective-mode}
-use Rattle.claims.proofs.Querying.{count-read, range-found, range-missing, query-decides}
+use Rattle.claims.proofs.Querying.{count-read, range-found, range-missing, sizes, query-decides, query-beyond}
 
 -- ---- the saved text
 
@@ -96,6 +96,8 @@ consequences =
       map-count = compiled-count;
       range-found = range-found;
       range-missing = range-missing;
+      query-beyond = query-beyond;
+      sizes = sizes;
       query-decides = query-decides;
       count-read = count-read;
     }

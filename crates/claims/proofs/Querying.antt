@@ -1,14 +1,14 @@
 -- A query reads the lowest-numbered range that holds the first byte; whether that range holds all bytes decides. Assumes nothing.
 use Prim.Native.Nat.{ℕ, _+_, _^_, _≤_, _<_, min}
 use mathlib.Core.Path.{_≡_, refl, ap, _∙_}
-use mathlib.Core.Bool.{Bool, true, false, cond}
+use mathlib.Core.Bool.{Bool, true, false, cond, _||_}
 use mathlib.Core.List.{List, [], _∷_}
-use mathlib.Core.Logic.{_⊎_, inl, inr}
+use mathlib.Core.Logic.{_⊎_, inl, inr, ⊎-elim}
 use native.Mathlib.Omega.{arith}
-use lib.Dec.{leb}
+use lib.Dec.{eqb, leb}
 use lib.ListN.{take}
-use borrow.Author.Tests.{le-leb, lt-leb}
-use Rattle.bits.proofs.Conjunction.{contradiction}
+use borrow.Author.Tests.{eqb-true, le-leb, lt-leb}
+use Rattle.bits.proofs.Conjunction.{contradiction, one-of}
 use Rattle.pmp.specs.declared.Mode.{Mode}
 use Rattle.pmp.specs.declared.Access.{Access}
 use Rattle.pmp.specs.declared.Decision.{Decision}
@@ -21,7 +21,7 @@ use Rattle.map.specs.Lookup.{holdsByte, findRange, rangesIn}
 use Rattle.map.specs.Query.{rangeDecides}
 use Rattle.map.proofs.Lawful.{less}
 use Rattle.map.proofs.LookupLaws.{holds-in, found-holds}
-use Rattle.map.proofs.QueryLaws.{reads-range, part-faults, whole-decides}
+use Rattle.map.proofs.QueryLaws.{reads-range, beyond-query, part-faults, whole-decides}
 use Rattle.hart.specs.declared.Hart.{Hart}
 use Rattle.hart.specs.Queries.{queryAnswer}
 use Rattle.claims.specs.Consequences.{causeFor, NoneHolds, LowestHolding, Sized}
@@ -83,6 +83,14 @@ sized size (inr (inl e)) = rw e (refl, omega arith)
 sized size (inr (inr (inl e))) = rw e (refl, omega arith)
 sized size (inr (inr (inr e))) = rw e (refl, omega arith)
 
+pub sizes : (size : ℕ) → isSize size ≡ true → Sized size
+sizes n e =
+    ⊎-elim (λ x. inl (eqb-true n 1 x))
+    (λ y. ⊎-elim (λ x. inr (inl (eqb-true n 2 x)))
+    (λ y. ⊎-elim (λ x. inr (inr (inl (eqb-true n 4 x)))) (λ x. inr (inr (inr (eqb-true n 8 x)))) (one-of (eqb n 4) (eqb n 8) y))
+    (one-of (eqb n 2) (eqb n 4 || eqb n 8) y))
+    (one-of (eqb n 1) (eqb n 2 || (eqb n 4 || eqb n 8)) e)
+
 module _ (cfgs : List ℕ) (mode : Mode) (access : Access) (address size : ℕ) (r : Range) where
   range-decides : 0 < size → r .owner ≤ 16 → (r .first ≤ address) × (address ≤ r .last)
       → rangeDecides cfgs mode access address size (At r)
@@ -109,3 +117,9 @@ query-decides h map mode access address size r held s below found valid =
     let z = sized size s in
     rw (held, reads-range cfgs mode access address size map (z .0) below, found)
     (range-decides cfgs mode access address size r (z .1) valid (found-holds (rangesIn map) address r found))
+
+pub query-beyond : (h : Hart) (map : Map) (mode : Mode) (access : Access) (address size : ℕ) → canHold (h .state) ≡ true
+    → Sized size → 2 ^ 56 < address + size → queryAnswer h map mode access address size ≡ Decision.Fault (causeFor access)
+unfolding queryAnswer
+query-beyond h map mode access address size held s past =
+    rw held (beyond-query (h .state .pmp .cfgs) mode access address size map (sized size s .0) past ∙ cause-for access)

@@ -345,6 +345,11 @@ pub record Consequences : Type 0 where
   -- "it reads the lowest-numbered range that holds the first byte": what is found is it, and where nothing is found no range holds the byte
   pub range-found : (rs : List Range) (byte : ℕ) (r : Range) → findRange rs byte ≡ At r → LowestHolding rs byte r
   pub range-missing : (rs : List Range) (byte : ℕ) → findRange rs byte ≡ Nothing → NoneHolds rs byte
+  -- "a byte at or above 2^56 faults before the map is read"
+  pub query-beyond : (h : Hart) (map : Map) (mode : Mode) (access : Access) (address size : ℕ) → canHold (h .state) ≡ true
+      → Sized size → 2 ^ 56 < address + size → queryAnswer h map mode access address size ≡ Decision.Fault (causeFor access)
+  -- refusal 1: "a size other than 1, 2, 4, 8"
+  pub sizes : (size : ℕ) → isSize size ≡ true → Sized size
   -- "it faults unless that range holds all bytes, and else the owner decides as above"
   pub query-decides : (h : Hart) (map : Map) (mode : Mode) (access : Access) (address size : ℕ) (r : Range) → canHold (h .state) ≡ true
       → Sized size → address + size ≤ 2 ^ 56 → findRange (rangesIn map) address ≡ At r → r .owner ≤ 16
