@@ -1,7 +1,7 @@
 -- Sentences of 01 that rest on more than one definition hold. Assumes nothing.
 use Prim.Native.Nat.{ℕ}
-use mathlib.Core.Path.{_≡_, refl}
-use mathlib.Core.List.{List}
+use mathlib.Core.Path.{_≡_, refl, _∙_}
+use mathlib.Core.List.{List, [], _∷_}
 use native.Mathlib.Omega.{arith}
 use lib.ListN.{take}
 use Rattle.bits.specs.Lists.{elements}
@@ -22,9 +22,11 @@ use Rattle.text.proofs.Laws.{read-text, text-read, read-words, refused-none}
 use Rattle.hart.specs.Steps.{hartWith}
 use Rattle.hart.specs.Saved.{textFor}
 use Rattle.claims.specs.Consequences.{keyed, keyedText, resetLines, joined, LowestOwner, Consequences}
-use Rattle.claims.proofs.OneValue.{zero-step, zero-readable, misa-step, fixed-step, fixed-writable}
+use Rattle.claims.proofs.OneValue.{zero-step, zero-readable, misa-step, fixed-step, fixed-writable, lowest-first, config-steps}
 use Rattle.claims.proofs.Counting.{mcycle-left, minstret-left, elapsed-counts}
 use Rattle.claims.proofs.OneAccess.{one-load, one-store, one-fetch}
+use Rattle.claims.proofs.Deciding.{entry-decides, cause-for, none-decides, effective-mode}
+use Rattle.claims.proofs.Querying.{count-read, range-found, range-missing, sizes, query-decides, query-beyond}
 
 -- ---- the saved text
 
@@ -35,6 +37,10 @@ saved-lines s = refl
 word-digits : hexDigits 16 0x0123456789ABCDEF ≡ bytesOf "0123456789abcdef"
 unfolding bytesOf hexDigits
 word-digits = refl
+
+packed-bytes : packed (1 ∷ 2 ∷ 3 ∷ 4 ∷ 5 ∷ 6 ∷ 7 ∷ 8 ∷ []) ≡ 0x0807060504030201
+unfolding packed
+packed-bytes = refl
 
 reset-text : textFor (hartWith resetState) ≡ joined resetLines
 unfolding bytesOf hexDigits lineOf linesOf keys textOf packed elements wordsOf
@@ -59,6 +65,10 @@ consequences =
       reads-zero = zero-step;
       readable = zero-readable;
       reads-misa = misa-step;
+      reads-configs = λ p. (refl, refl);
+      lowest-first = lowest-first;
+      packed-bytes = packed-bytes;
+      config-steps = config-steps;
       ignores-writes = fixed-step;
       writable = fixed-writable;
       elapsed-counts = elapsed-counts;
@@ -67,9 +77,14 @@ consequences =
       load = one-load;
       store = one-store;
       fetch = one-fetch;
-      beyond = beyond-faults;
-      two-owners = λ cfgs addrs mode access address size. two-owners cfgs addrs address size mode access;
+      beyond = λ cfgs addrs mode access address size p h. beyond-faults cfgs addrs mode access address size p h ∙ cause-for access;
+      two-owners = λ cfgs addrs mode access address size b d m p q u v n.
+          two-owners cfgs addrs address size mode access b d m p q u v n ∙ cause-for access;
       one-owner = λ cfgs addrs mode access address size. one-owner cfgs addrs address size mode access;
+      entry-decides = entry-decides;
+      none-decides = none-decides;
+      effective-mode = effective-mode;
+      mode-numbers = (refl, refl, refl);
       owner = owner;
       lines = λ s. (saved-lines s, refl, text-length (wordsOf s));
       digits = word-digits;
@@ -79,4 +94,10 @@ consequences =
       unread = refused-none;
       map-laid = map-laid;
       map-count = compiled-count;
+      range-found = range-found;
+      range-missing = range-missing;
+      query-beyond = query-beyond;
+      sizes = sizes;
+      query-decides = query-decides;
+      count-read = count-read;
     }

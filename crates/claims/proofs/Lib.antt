@@ -9,4 +9,6 @@ pub mod Worked
 pub mod OneValue
 pub mod Counting
 pub mod OneAccess
+pub mod Deciding
+pub mod Querying
 pub mod Consequences

@@ -1,5 +1,5 @@
--- Registers that read one value and ignore writes: any CSR step on one, where it is not illegal. Assumes nothing.
-use Prim.Native.Nat.{ℕ, suc, _-_, _/_, _%_}
+-- Registers that read one value and ignore writes: any CSR step on one, where it is not illegal. What pmpcfg0 and pmpcfg2 read. Assumes nothing.
+use Prim.Native.Nat.{ℕ, suc, _+_, _-_, _*_, _/_, _%_, _^_}
 use mathlib.Core.Path.{_≡_, refl, sym, ap, _∙_}
 use mathlib.Core.Bool.{Bool, true, false, not, _&&_, _||_, false≢true, and-false, or-false}
 use mathlib.Core.List.{List, [], _∷_}
@@ -7,6 +7,7 @@ use mathlib.Core.Logic.{⊎-elim}
 use native.Mathlib.Omega.{arith}
 use borrow.Author.Tests.{eqb-true, leb-true, not-true}
 use lib.Dec.{eqb, leb, ltb}
+use lib.ListN.{take, drop}
 use Rattle.bits.specs.Mask.{testBit}
 use Rattle.bits.proofs.Conjunction.{both, one-of, neither, by-test, contradiction, not-true-false}
 use Rattle.pmp.specs.Search.{everyByte}
@@ -16,7 +17,8 @@ use Rattle.steps.specs.declared.Operation.the-variants.{Read}
 use Rattle.steps.specs.declared.Step.the-variants.{Csr}
 use Rattle.registers.specs.declared.Registers.{Registers}
 use Rattle.registers.specs.Update.{withFlow}
-use Rattle.protection.specs.Read.{isPmp}
+use Rattle.protection.specs.Configs.{packed}
+use Rattle.protection.specs.Read.{isPmp, pmpRead}
 use Rattle.protection.proofs.SameLaws.{same-pmp-refl}
 use Rattle.state.specs.Hold.{canHold}
 use Rattle.csr.specs.Permit.{between, present, readOnly, attemptsWrite, translationTrapped, illegal}
@@ -134,3 +136,30 @@ fixed-writable r op n p =
     let w = both (present n) (not (readOnly n || between 0xC00 0xC1F n)) (listed-passes openNumber fixedNumbers n fixed-open p) in
     let v = neither (readOnly n) (between 0xC00 0xC1F n) (not-true _ (w .1)) in
     rw (w .0, v .0, v .1, and-false (attemptsWrite op), or-false (translationTrapped r n))
+
+-- ---- pmpcfg0 and pmpcfg2
+
+pub lowest-first : (b c d e f g i j : ℕ)
+    → packed (b ∷ c ∷ d ∷ e ∷ f ∷ g ∷ i ∷ j ∷ [])
+    ≡ b + 2 ^ 8 * c + 2 ^ 16 * d + 2 ^ 24 * e + 2 ^ 32 * f + 2 ^ 40 * g + 2 ^ 48 * i + 2 ^ 56 * j
+unfolding packed
+lowest-first b c d e f g i j = omega arith
+
+machine-legal : (r : Registers) (n : ℕ) → r .mode ≡ 3 → illegal (withFlow r 3 (r .pc) (r .mstatus)) Read n ≡ false → illegal r Read n ≡ false
+machine-legal r n m p = ap (λ (mode : ℕ). illegal (withFlow r mode (r .pc) (r .mstatus)) Read n) m ∙ p
+
+-- a read of a protection register
+protection-read : (h : Hart) (map : Map) (n operand : ℕ) → canHold (h .state) ≡ true → illegal (h .state .registers) Read n ≡ false
+    → ltb 4095 n ≡ false → isPmp n ≡ true → stepped h map (Csr Read n operand) ≡ movedOn h map (pmpRead (h .state .pmp) n)
+unfolding stepped stepRule csrStep
+protection-read h map n operand held legal small pmp = rw (held, legal, small, pmp, same-pmp-refl (h .state .pmp))
+
+pub config-steps : (h : Hart) (map : Map) (operand : ℕ) → canHold (h .state) ≡ true → h .state .registers .mode ≡ 3
+    → (stepped h map (Csr Read 0x3A0 operand) ≡ movedOn h map (packed (take 8 (h .state .pmp .cfgs))))
+    × (stepped h map (Csr Read 0x3A2 operand) ≡ movedOn h map (packed (drop 8 (h .state .pmp .cfgs))))
+unfolding illegal present
+config-steps h map operand held m =
+    let r = h .state .registers in (
+      protection-read h map 0x3A0 operand held (machine-legal r 0x3A0 m refl) refl refl,
+      protection-read h map 0x3A2 operand held (machine-legal r 0x3A2 m refl) refl refl,
+    )

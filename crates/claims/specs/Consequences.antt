@@ -1,21 +1,22 @@
 -- Sentences of 01 that rest on more than one definition, each as a law in 01's own numbers: registers of one value, the counters, accesses,
 -- the saved text, the map.
-use Prim.Native.Nat.{ℕ, _+_, _/_, _%_, _^_, _≤_, _<_}
+use Prim.Native.Nat.{ℕ, _+_, _*_, _/_, _%_, _^_, _≤_, _<_}
 use Prim.Native.String.{String}
 use mathlib.Core.Path.{_≡_}
 use mathlib.Core.Bool.{Bool, true, false, cond, not, _&&_, _||_}
 use mathlib.Core.List.{List, [], _∷_, _++_}
 use mathlib.Core.Logic.{_⊎_}
-use lib.Dec.{eqb, ltb}
+use lib.Dec.{eqb, leb, ltb}
 use lib.ListN.{length, getD, take, drop}
 use Rattle.bits.specs.Lists.{Words}
 use Rattle.bits.specs.Mask.{testBit}
 use Rattle.lines.specs.Lines.{bytesOf, hexDigits, lineOf}
 use Rattle.pmp.specs.declared.Mode.{Mode}
+use Rattle.pmp.specs.declared.Mode.the-variants.{User, Supervisor, Machine}
 use Rattle.pmp.specs.declared.Access.{Access}
 use Rattle.pmp.specs.declared.Access.the-variants.{Fetch, Load, Store}
 use Rattle.pmp.specs.declared.Decision.{Decision}
-use Rattle.pmp.specs.Number.{faultCause}
+use Rattle.pmp.specs.Number.{modeOf}
 use Rattle.pmp.specs.Entry.{matches}
 use Rattle.pmp.specs.Rule.{ownerDecides, byteRule, isSize, ownerOf}
 use Rattle.steps.specs.declared.Trap.the-variants.{Exception}
@@ -30,13 +31,18 @@ use Rattle.registers.specs.declared.Counters.{Counters}
 use Rattle.registers.specs.declared.Registers.{Registers}
 use Rattle.registers.specs.Effective.{effectiveMode}
 use Rattle.registers.specs.Update.{levelOf, withPc, withCounters}
+use Rattle.protection.specs.declared.Pmp.{Pmp}
 use Rattle.protection.specs.Configs.{packed}
+use Rattle.protection.specs.Read.{pmpRead}
 use Rattle.state.specs.declared.State.{State}
 use Rattle.state.specs.Hold.{canHold, resetState}
 use Rattle.csr.specs.Permit.{between, attemptsWrite, illegal}
 use Rattle.csr.specs.Show.{registerRead}
 use Rattle.trap.specs.Enter.{destination, raised}
+use Rattle.map.specs.declared.Range.{Range}
 use Rattle.map.specs.declared.Map.{Map}
+use Rattle.map.specs.declared.Found.the-variants.{At, Nothing}
+use Rattle.map.specs.Lookup.{findRange, rangesIn}
 use Rattle.map.specs.Ranges.{IsMap}
 use Rattle.map.specs.Compiled.{compiled}
 use Rattle.text.specs.Text.{textOf, readAs, readText}
@@ -44,6 +50,7 @@ use Rattle.engine.specs.Effects.{withRegisters}
 use Rattle.hart.specs.declared.Hart.{Hart}
 use Rattle.hart.specs.declared.Stepped.{Stepped}
 use Rattle.hart.specs.Steps.{hartWith, handedBack, stepped}
+use Rattle.hart.specs.Queries.{queryAnswer}
 use Rattle.hart.specs.Saved.{textFor}
 
 -- ---- registers of one value
@@ -115,6 +122,31 @@ elapsedBy h cycles retired =
 abbrev pub ruleOn : Hart → Access → ℕ → ℕ → Decision
 ruleOn h access address size =
     byteRule (h .state .pmp .cfgs) (h .state .pmp .addrs) (effectiveMode (h .state .registers) access) access address size
+
+-- the bit of an entry's byte for an access: R is bit 0, W bit 1, X bit 2
+abbrev pub bitFor : Access → ℕ
+bitFor Fetch = 2
+bitFor Load = 0
+bitFor Store = 1
+
+-- faults: fetch 1, load 5, store 7
+abbrev pub causeFor : Access → ℕ
+causeFor Fetch = 1
+causeFor Load = 5
+causeFor Store = 7
+
+abbrev pub isMachine : Mode → Bool
+isMachine User = false
+isMachine Supervisor = false
+isMachine Machine = true
+
+-- granted where this holds, and else the access's fault
+abbrev pub grantedIf : Bool → Access → Decision
+grantedIf granted access = cond granted Decision.Granted (Decision.Fault (causeFor access))
+
+-- the mode of a load or store: MPP, bits 12:11 of mstatus, if MPRV, bit 17, is 1
+abbrev pub loadMode : Registers → Mode
+loadMode r = modeOf (cond (testBit (r .mstatus) 17) (r .mstatus / 2 ^ 11 % 4) (r .mode))
 
 -- a step that traps with this cause and trap value, and does no more than the entry
 pub record TrapsWith (h : Hart) (map : Map) (cause tval : ℕ) (after : Stepped) : Type 0 where
@@ -217,6 +249,25 @@ pub record LowestOwner (cfgs addrs : List ℕ) (byte owner : ℕ) : Type 0 where
   pub matching : owner < 16 → matches cfgs addrs owner byte ≡ true
   pub lowest : (i : ℕ) → i < owner → matches cfgs addrs i byte ≡ false
 
+-- ---- queries
+
+-- no range of the list holds the byte
+abbrev pub NoneHolds : List Range → ℕ → Type 0
+NoneHolds [] byte = Unit {0}
+NoneHolds (r ∷ rs) byte = (r .first ≤ byte → byte ≤ r .last → ⊥) × NoneHolds rs byte
+
+-- the range is the list's lowest-numbered one that holds the byte
+pub record LowestHolding (rs : List Range) (byte : ℕ) (r : Range) : Type 0 where
+  pub before : List Range
+  pub after : List Range
+  pub place : rs ≡ before ++ r ∷ after
+  pub none : NoneHolds before byte
+  pub holds : (r .first ≤ byte) × (byte ≤ r .last)
+
+-- the sizes of an access
+abbrev pub Sized : ℕ → Type 0
+Sized size = (size ≡ 1) ⊎ ((size ≡ 2) ⊎ ((size ≡ 4) ⊎ (size ≡ 8)))
+
 -- ---- all of them
 
 pub record Consequences : Type 0 where
@@ -227,6 +278,15 @@ pub record Consequences : Type 0 where
   -- "misa (301) reads 0x8000000000141101"
   pub reads-misa : (h : Hart) (map : Map) (op : Operation) (operand : ℕ) → canHold (h .state) ≡ true
       → illegal (h .state .registers) op 0x301 ≡ false → stepped h map (Csr op 0x301 operand) ≡ movedOn h map 0x8000000000141101
+  -- "3A0 and 3A2 are pmpcfg0 and pmpcfg2, entry 0 in the lowest byte"
+  pub reads-configs : (p : Pmp) → (pmpRead p 0x3A0 ≡ packed (take 8 (p .cfgs))) × (pmpRead p 0x3A2 ≡ packed (drop 8 (p .cfgs)))
+  pub lowest-first : (b c d e f g i j : ℕ)
+      → packed (b ∷ c ∷ d ∷ e ∷ f ∷ g ∷ i ∷ j ∷ [])
+      ≡ b + 2 ^ 8 * c + 2 ^ 16 * d + 2 ^ 24 * e + 2 ^ 32 * f + 2 ^ 40 * g + 2 ^ 48 * i + 2 ^ 56 * j
+  pub packed-bytes : packed (1 ∷ 2 ∷ 3 ∷ 4 ∷ 5 ∷ 6 ∷ 7 ∷ 8 ∷ []) ≡ 0x0807060504030201
+  pub config-steps : (h : Hart) (map : Map) (operand : ℕ) → canHold (h .state) ≡ true → h .state .registers .mode ≡ 3
+      → (stepped h map (Csr Read 0x3A0 operand) ≡ movedOn h map (packed (take 8 (h .state .pmp .cfgs))))
+      × (stepped h map (Csr Read 0x3A2 operand) ≡ movedOn h map (packed (drop 8 (h .state .pmp .cfgs))))
   -- "A write to 301, 323 to 33F, B03 to B1F, 30A, 10A or 180 is done and changes nothing"; it is illegal only below bits 9:8, or of 180 in S with TVM=1
   pub ignores-writes : (h : Hart) (map : Map) (op : Operation) (number operand : ℕ) → canHold (h .state) ≡ true
       → illegal (h .state .registers) op number ≡ false → ignoresWrites number ≡ true
@@ -249,13 +309,24 @@ pub record Consequences : Type 0 where
   -- "Any byte at or above 2^56: access fault in every mode (house). Else the lowest entry matching any byte decides: it must match all bytes, or fault,
   -- even in M with L=0": bytes of two owners fault, bytes of one are decided by it
   pub beyond : (cfgs addrs : List ℕ) (mode : Mode) (access : Access) (address size : ℕ) → 0 < size → 2 ^ 56 < address + size
-      → byteRule cfgs addrs mode access address size ≡ Decision.Fault (faultCause access)
+      → byteRule cfgs addrs mode access address size ≡ Decision.Fault (causeFor access)
   pub two-owners : (cfgs addrs : List ℕ) (mode : Mode) (access : Access) (address size b d : ℕ) → address + size ≤ 2 ^ 56
       → address ≤ b → b < address + size → address ≤ d → d < address + size → (ownerOf cfgs addrs b ≡ ownerOf cfgs addrs d → ⊥)
-      → byteRule cfgs addrs mode access address size ≡ Decision.Fault (faultCause access)
+      → byteRule cfgs addrs mode access address size ≡ Decision.Fault (causeFor access)
   pub one-owner : (cfgs addrs : List ℕ) (mode : Mode) (access : Access) (address size owner : ℕ) → 0 < size → address + size ≤ 2 ^ 56
       → ((byte : ℕ) → address ≤ byte → byte < address + size → ownerOf cfgs addrs byte ≡ owner)
       → byteRule cfgs addrs mode access address size ≡ ownerDecides cfgs mode access owner
+  -- "Then unlocked in M is granted; otherwise its R, W or X bit.": L is bit 7
+  pub entry-decides : (cfgs : List ℕ) (mode : Mode) (access : Access) (owner : ℕ) → owner < 16 → getD cfgs owner 0 < 256
+      → ownerDecides cfgs mode access owner
+      ≡ grantedIf ((isMachine mode && not (testBit (getD cfgs owner 0) 7)) || testBit (getD cfgs owner 0) (bitFor access)) access
+  -- "No matching entry: granted in M, fault in S and U. Faults: fetch 1, load 5, store 7"
+  pub none-decides : (cfgs : List ℕ) (mode : Mode) (access : Access) → ownerDecides cfgs mode access 16 ≡ grantedIf (isMachine mode) access
+  -- "Effective mode: a fetch uses mode; a load or store uses MPP if MPRV=1, else mode."
+  pub effective-mode : (r : Registers)
+      → (effectiveMode r Fetch ≡ modeOf (r .mode)) × (effectiveMode r Load ≡ loadMode r) × (effectiveMode r Store ≡ loadMode r)
+  -- "modes U=0, S=1, M=3"
+  pub mode-numbers : (modeOf 0 ≡ User) × (modeOf 1 ≡ Supervisor) × (modeOf 3 ≡ Machine)
   -- "owner being the lowest entry matching each byte or none"
   pub owner : (cfgs addrs : List ℕ) (byte : ℕ) → LowestOwner cfgs addrs byte (ownerOf cfgs addrs byte)
   -- "41 lines, each key, `=`, 16 lower-case hexadecimal digits, line feed; 1,027 bytes. Keys in this order"
@@ -271,3 +342,18 @@ pub record Consequences : Type 0 where
   -- from 0 to 2^56-1, neighbours never with one owner": the list in the compiled map, whatever bytes and addresses the sixteen entries have
   pub map-laid : (cfgs addrs : List ℕ) → IsMap cfgs addrs (take (compiled cfgs addrs .count) (compiled cfgs addrs .ranges))
   pub map-count : (cfgs addrs : List ℕ) → compiled cfgs addrs .count ≤ 33
+  -- "it reads the lowest-numbered range that holds the first byte": what is found is it, and where nothing is found no range holds the byte
+  pub range-found : (rs : List Range) (byte : ℕ) (r : Range) → findRange rs byte ≡ At r → LowestHolding rs byte r
+  pub range-missing : (rs : List Range) (byte : ℕ) → findRange rs byte ≡ Nothing → NoneHolds rs byte
+  -- "a byte at or above 2^56 faults before the map is read"
+  pub query-beyond : (h : Hart) (map : Map) (mode : Mode) (access : Access) (address size : ℕ) → canHold (h .state) ≡ true
+      → Sized size → 2 ^ 56 < address + size → queryAnswer h map mode access address size ≡ Decision.Fault (causeFor access)
+  -- refusal 1: "a size other than 1, 2, 4, 8"
+  pub sizes : (size : ℕ) → isSize size ≡ true → Sized size
+  -- "it faults unless that range holds all bytes, and else the owner decides as above"
+  pub query-decides : (h : Hart) (map : Map) (mode : Mode) (access : Access) (address size : ℕ) (r : Range) → canHold (h .state) ≡ true
+      → Sized size → address + size ≤ 2 ^ 56 → findRange (rangesIn map) address ≡ At r → r .owner ≤ 16
+      → queryAnswer h map mode access address size
+      ≡ cond (leb (address + size) (r .last + 1)) (ownerDecides (h .state .pmp .cfgs) mode access (r .owner)) (Decision.Fault (causeFor access))
+  -- "A count above 33 is read as 33."
+  pub count-read : (m : Map) → rangesIn m ≡ take (cond (leb (m .count) 33) (m .count) 33) (m .ranges)
