@@ -21,7 +21,8 @@ use Rattle.text.proofs.Form.{text-length}
 use Rattle.text.proofs.Laws.{read-text, text-read, read-words, refused-none}
 use Rattle.hart.specs.Steps.{hartWith}
 use Rattle.hart.specs.Saved.{textFor}
-use Rattle.claims.specs.Consequences.{keyed, keyedText, resetLines, joined, LowestOwner, Consequences}
+use Rattle.claims.specs.SavedLines.{keyed, keyedText, resetLines, joined}
+use Rattle.claims.specs.Consequences.{LowestOwner, Consequences}
 use Rattle.claims.proofs.OneValue.{zero-step, zero-readable, misa-step, fixed-step, fixed-writable, lowest-first, config-steps}
 use Rattle.claims.proofs.Counting.{mcycle-left, minstret-left, elapsed-counts}
 use Rattle.claims.proofs.OneAccess.{one-load, one-store, one-fetch}

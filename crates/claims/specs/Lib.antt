@@ -6,4 +6,5 @@ pub mod Texts
 pub mod Faithful
 pub mod AfterRun
 pub mod Worked
+pub mod SavedLines
 pub mod Consequences
