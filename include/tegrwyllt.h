@@ -1,9 +1,12 @@
 /*
  * Tegrwyllt: a RISC-V hart with physical memory protection, for C.
  *
- * Every function is proved to do what its contract says on any slices that do
- * not overlap. A slice is passed as a pointer and a number of elements, and
- * nothing is kept from one call to the next.
+ * A slice is passed as a pointer and a number of elements. The caller sees to
+ * it that each pointer is aligned for its elements and not null, for an empty
+ * slice too; that all elements are initialised; and that no two slices of a
+ * call overlap. Given that, every function is proved to do what its contract
+ * says, whatever the slices hold and however long they are. Nothing is kept
+ * from one call to the next.
  *
  * A hart is 41 words in the order of the saved text: mode pc mstatus medeleg
  * mideleg mie mip lines mtvec mcounteren mcountinhibit mscratch mepc mcause

@@ -11,6 +11,7 @@ use Rattle.pmp.specs.declared.Mode.{Mode}
 use Rattle.pmp.specs.declared.Access.{Access}
 use Rattle.pmp.specs.declared.Decision.{Decision}
 use Rattle.pmp.specs.Number.{isMode, modeOf}
+use Rattle.steps.specs.Number.{decisionNumbers}
 use Rattle.map.specs.declared.Range.{Range}
 use Rattle.map.specs.declared.Map.{Map}
 use Rattle.map.specs.declared.Found.{Found}
@@ -25,7 +26,7 @@ use Rattle.state.specs.Slices.{loaded}
 use Rattle.state.proofs.SliceLaws.{all-loaded}
 use Rattle.hart.specs.Steps.{hartWith}
 use Rattle.capi.specs.MapWords.{mapOfWords}
-use Rattle.capi.specs.Calls.{hartOf, fits, accessOf, mapWith, decisionWords, queryable, queryResult, queryAnswered}
+use Rattle.capi.specs.Calls.{hartOf, fits, accessOf, mapWith, queryable, queryResult, queryAnswered}
 use Rattle.capi.proofs.CallLaws.{fitting}
 
 -- a map with the range that was found has the same range there
@@ -69,7 +70,7 @@ module _ (hart map : List ℕ) (mode kind : ℕ) (answer : List ℕ) where
   result-is e = rw e
 
   pub answer-is : {t : Bool} (address size : ℕ) → queryable hart map mode kind answer ≡ t
-      → cond t (decisionWords (queryAnswer (hartOf hart) (mapOfWords map) (modeOf mode) (accessOf kind) address size)) answer
+      → cond t (decisionNumbers (queryAnswer (hartOf hart) (mapOfWords map) (modeOf mode) (accessOf kind) address size)) answer
       ≡ queryAnswered hart map mode kind address size answer
   unfolding queryAnswered
   answer-is address size e = rw e

@@ -7,11 +7,9 @@ use lib.ListN.{length, replicate}
 use lib.Seq.{sets}
 use Rattle.pmp.specs.declared.Access.{Access}
 use Rattle.pmp.specs.declared.Access.the-variants.{Fetch, Load, Store}
-use Rattle.pmp.specs.declared.Decision.{Decision}
-use Rattle.pmp.specs.declared.Decision.the-variants.{Granted, Fault, Refused}
 use Rattle.pmp.specs.Number.{isMode, modeOf}
 use Rattle.steps.specs.declared.Step.{Step}
-use Rattle.steps.specs.Number.{refusalOf}
+use Rattle.steps.specs.Number.{decisionNumbers, refusalOf}
 use Rattle.steps.specs.Decode.{stepsOf, nameSteps}
 use Rattle.state.specs.Words.{wordsOf, stateOf}
 use Rattle.map.specs.declared.Map.{Map}
@@ -83,12 +81,6 @@ abbrev pub mapWith : Found → Map
 mapWith (At r) = record { count = 1; ranges = replicate 33 r }
 mapWith Nothing = emptyMap
 
--- a query's decision: 3 granted; 6 fault, with its cause; 5 refused, with its number
-abbrev pub decisionWords : Decision → List ℕ
-decisionWords Granted = 3 ∷ 0 ∷ 0 ∷ []
-decisionWords (Fault cause) = 6 ∷ cause ∷ 0 ∷ []
-decisionWords (Refused number) = 5 ∷ number ∷ 0 ∷ []
-
 -- the slices fit; mode is 0, 1 or 3 and kind 0, 1 or 2
 abbrev pub queryable : List ℕ → List ℕ → ℕ → ℕ → List ℕ → Bool
 queryable hart map mode kind answer = fits hart map && (eqb (length answer) 3 && (isMode mode && leb kind 2))
@@ -99,7 +91,7 @@ queryResult hart map mode kind answer = cond (queryable hart map mode kind answe
 unfoldable pub queryAnswered : List ℕ → List ℕ → ℕ → ℕ → ℕ → ℕ → List ℕ → List ℕ
 queryAnswered hart map mode kind address size answer =
     cond (queryable hart map mode kind answer)
-    (decisionWords (queryAnswer (hartOf hart) (mapOfWords map) (modeOf mode) (accessOf kind) address size))
+    (decisionNumbers (queryAnswer (hartOf hart) (mapOfWords map) (modeOf mode) (accessOf kind) address size))
     answer
 
 -- ---- the saved text

@@ -9,9 +9,10 @@ use pmp::Decision;
 ghost use mathlib.Core.Path.{_≡_};
 ghost use lib.ListN.{length};
 ghost use Rattle.pmp.specs.Number.{modeOf};
+ghost use Rattle.steps.specs.Number.{decisionNumbers};
 ghost use Rattle.hart.specs.Queries.{queryAnswer};
 ghost use Rattle.capi.specs.MapWords.{mapOfWords};
-ghost use Rattle.capi.specs.Calls.{hartOf, accessOf, mapWith, decisionWords};
+ghost use Rattle.capi.specs.Calls.{hartOf, accessOf, mapWith};
 
 // The kind of access of a number: 0 is a fetch, 1 a load, and any other a store.
 fn access_of(kind: u64) -> Access
@@ -69,7 +70,7 @@ pub(crate) fn ask(
 }
 
 pub(crate) fn decision_words(decision: Decision) -> [u64; 3]
-    ensures { λ r. ⌜ r ≡ decisionWords decision ⌝ }
+    ensures { λ r. ⌜ r ≡ decisionNumbers decision ⌝ }
 {
     match decision {
         Decision::Granted => [3, 0, 0],

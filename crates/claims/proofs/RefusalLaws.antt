@@ -1,34 +1,51 @@
--- A step is refused exactly when the table says, and a refusal changes nothing. Assumes nothing.
+-- Steps, queries, saves and readings of a text are refused exactly when the table says, and a refusal changes nothing. Assumes nothing.
 use Prim.Native.Nat.{ℕ}
-use mathlib.Core.Path.{_≡_, refl, ap}
-use mathlib.Core.Bool.{Bool, true, false, cond, _||_}
+use mathlib.Core.Path.{_≡_, refl, sym, ap, _∙_}
+use mathlib.Core.Bool.{Bool, true, false, cond, not, _||_}
+use mathlib.Core.List.{List, _++_}
 use mathlib.Core.Logic.{⊎-elim}
-use lib.Dec.{ltb}
+use mathlib.Core.Option.{Option, none, some, Option·some-injective, Option·none-ne-some}
+use lib.Bits.{bitAnd}
+use lib.Dec.{eqb, leb, ltb}
+use lib.ListN.{length, drop}
+use Rattle.bits.proofs.Conjunction.{contradiction}
+use Rattle.pmp.specs.declared.Mode.{Mode}
 use Rattle.pmp.specs.declared.Access.{Access}
 use Rattle.pmp.specs.declared.Access.the-variants.{Fetch, Load, Store}
 use Rattle.pmp.specs.declared.Decision.{Decision}
-use Rattle.pmp.specs.Rule.{isSize, byteRule, checked}
+use Rattle.pmp.specs.Search.{anyByte, everyByte}
+use Rattle.pmp.specs.Entry.{top}
+use Rattle.pmp.specs.Rule.{isSize, ownerDecides, byteRule, checked, none as noOwner}
 use Rattle.pmp.specs.Number.{faultCause}
-use Rattle.pmp.proofs.Answered.{GrantOrFault, rule-answers}
+use Rattle.pmp.proofs.Answered.{GrantOrFault, owner-answers, rule-answers}
 use Rattle.steps.specs.declared.Operation.{Operation}
+use Rattle.steps.specs.declared.Event.{Event}
+use Rattle.steps.specs.declared.Event.the-variants.{Raise, Lines, TakeInterrupt, Mret, Sret, Wfi, Ecall, Ebreak, Advance, Elapsed}
 use Rattle.steps.specs.declared.Step.{Step}
 use Rattle.steps.specs.declared.Step.the-variants.{Reset, Csr, Access as AccessStep, Event as EventStep}
+use Rattle.steps.specs.declared.Answer.{Answer}
+use Rattle.steps.specs.declared.Answer.the-variants.{Done, Refused}
 use Rattle.steps.specs.Number.{refusalOf}
 use Rattle.registers.specs.Effective.{effectiveMode}
 use Rattle.protection.specs.Read.{isPmp}
 use Rattle.protection.proofs.SameLaws.{same-pmp-refl}
 use Rattle.state.specs.declared.State.{State}
 use Rattle.state.specs.Hold.{canHold}
+use Rattle.state.specs.Words.{wordsOf, stateOf}
 use Rattle.csr.specs.Permit.{illegal}
 use Rattle.trap.specs.declared.Outcome.{Outcome}
 use Rattle.trap.specs.Enter.{raised, illegalInstruction}
 use Rattle.trap.specs.Events.{eventStep}
-use Rattle.trap.proofs.Quiet.{Quiet, never, raised-quiet, event-quiet}
+use Rattle.trap.proofs.Quiet.{refuses, Quiet, raised-quiet, event-quiet}
 use Rattle.map.specs.declared.Map.{Map}
+use Rattle.map.specs.declared.Found.{Found}
+use Rattle.map.specs.declared.Found.the-variants.{At, Nothing}
+use Rattle.map.specs.Lookup.{holdsByte, findRange, rangesIn}
+use Rattle.map.specs.Query.{rangeDecides, queried}
+use Rattle.text.specs.Text.{textOf, writtenTo, readText}
 use Rattle.engine.specs.Effects.{
   Effect,
   refused,
-  withRegisters,
   onRegisters,
   protectionStep,
   registerStep,
@@ -42,47 +59,114 @@ use Rattle.engine.specs.Effects.{
 }
 use Rattle.hart.specs.declared.Hart.{Hart}
 use Rattle.hart.specs.declared.Stepped.{Stepped}
-use Rattle.hart.specs.Steps.{hartWith, withMap, resetDone, stepped}
-use Rattle.claims.specs.Refusals.{sizeRefusal, argumentRefusal, stepRefusal, RefusalTable}
+use Rattle.hart.specs.Steps.{hartWith, handedBack, withMap, resetDone, stepped}
+use Rattle.hart.specs.Queries.{queryAnswer}
+use Rattle.hart.specs.Saved.{savedAnswer, savedBuffer, restoredDone, restoredWords, restored}
+use Rattle.claims.specs.Refusals.{
+  sizeRefusal,
+  eventRefusal,
+  argumentRefusal,
+  stepRefusal,
+  rangeRefusal,
+  queryRefusal,
+  saveRefusal,
+  restoreRefusal,
+  Exactly,
+  RefusalTable,
+}
 
--- ---- the state: the answer has this refusal's number, and where that is one the state is what went in
+-- ---- an answer of any type that has refusals, and the table
 
-abbrev Refuses : State → ℕ → Effect → Type 0
-Refuses s n e = (refusalOf (e .answer) ≡ n) × ((n ≡ 0 → ⊥) → e .state ≡ s)
+module _ {A : Type 0} (RefusedWith : ℕ → A) (refusing : A → Bool) (number : A → ℕ) (refusing-is : (n : ℕ) → refusing (RefusedWith n) ≡ true)
+    (number-is : (n : ℕ) → number (RefusedWith n) ≡ n) where
+  -- the answer is the table's refusal, or none where the table has none
+  abbrev Tells : Option ℕ → A → Type 0
+  Tells none a = refusing a ≡ false
+  Tells (some n) a = a ≡ RefusedWith n
+
+  one-number : {m n : ℕ} {a : A} → a ≡ RefusedWith m → a ≡ RefusedWith n → m ≡ n
+  one-number {m} {n} p q = sym (number-is m) ∙ ap number (sym p ∙ q) ∙ number-is n
+
+  exactly : (table : Option ℕ) (a : A) → Tells table a → Exactly (λ n. a ≡ RefusedWith n) table
+  exactly none a t n = (λ e. contradiction (ap refusing e ∙ refusing-is n) t, λ e. absurd (Option·none-ne-some n e))
+  exactly (some m) a t n = (λ e. ap {B = Option ℕ} some (one-number t e), λ e. t ∙ ap RefusedWith (Option·some-injective m n e))
+
+abbrev Told : Option ℕ → Answer → Type 0
+Told = Tells Refused refuses refusalOf (λ n. refl) (λ n. refl)
+
+told-exactly : (table : Option ℕ) (a : Answer) → Told table a → Exactly (λ n. a ≡ Refused n) table
+told-exactly = exactly Refused refuses refusalOf (λ n. refl) (λ n. refl)
+
+-- ---- what is handed back: the table's refusal with the hart and map that went in, or no refusal
+
+abbrev Handed : Hart → Map → Option ℕ → Stepped → Type 0
+Handed h map none r = refuses (r .answer) ≡ false
+Handed h map (some n) r = r ≡ handedBack h map (Refused n)
+
+handed-told : (h : Hart) (map : Map) (table : Option ℕ) (r : Stepped) → Handed h map table r → Told table (r .answer)
+handed-told h map none r t = t
+handed-told h map (some n) r t = ap (λ (s : Stepped). s .answer) t
+
+handed-exactly : (h : Hart) (map : Map) (table : Option ℕ) (r : Stepped) → Handed h map table r → Exactly (λ n. r .answer ≡ Refused n) table
+handed-exactly h map table r t = told-exactly table (r .answer) (handed-told h map table r t)
+
+handed-unchanged : (h : Hart) (map : Map) (table : Option ℕ) (r : Stepped) → Handed h map table r → (n : ℕ) → r .answer ≡ Refused n
+    → r ≡ handedBack h map (Refused n)
+handed-unchanged h map none r t n e = contradiction (ap refuses e) t
+handed-unchanged h map (some m) r t n e =
+    t ∙ ap (λ (k : ℕ). handedBack h map (Refused k)) (ap refusalOf (sym (ap (λ (s : Stepped). s .answer) t) ∙ e))
+
+-- ---- steps: what each does to the state
+
+abbrev Refuses : State → Option ℕ → Effect → Type 0
+Refuses s none e = refuses (e .answer) ≡ false
+Refuses s (some n) e = e ≡ refused s n
 
 module _ (s : State) where
-  on-registers : (n : ℕ) (o : Outcome) → Quiet (s .registers) n o → Refuses s n (onRegisters s o)
-  on-registers n o q = (q .0, λ z. ap (withRegisters s) (q .1 z))
+  -- an event that passes its test is not refused
+  unless : (b : Bool) (o : Outcome) → Quiet (s .registers) (not b) o → Refuses s (cond b none (some 2)) (onRegisters s o)
+  unless true o q = q
+  unless false o q = ap (onRegisters s) q
 
-  csr-refuses : (op : Operation) (number operand : ℕ) → Refuses s (cond (ltb 4095 number) 2 0) (csrStep s op number operand)
+  event-refuses : (event : Event) → Refuses s (eventRefusal event) (onRegisters s (eventStep (s .registers) event))
+  event-refuses (Raise cause tval) = unless (leb cause 7) _ (event-quiet (s .registers) (Raise cause tval))
+  event-refuses (Lines lines) = unless (eqb (bitAnd lines 0xA88) lines) _ (event-quiet (s .registers) (Lines lines))
+  event-refuses TakeInterrupt = event-quiet (s .registers) TakeInterrupt
+  event-refuses Mret = event-quiet (s .registers) Mret
+  event-refuses Sret = event-quiet (s .registers) Sret
+  event-refuses Wfi = event-quiet (s .registers) Wfi
+  event-refuses Ecall = event-quiet (s .registers) Ecall
+  event-refuses Ebreak = event-quiet (s .registers) Ebreak
+  event-refuses (Advance target) = event-quiet (s .registers) (Advance target)
+  event-refuses (Elapsed cycles retired) = event-quiet (s .registers) (Elapsed cycles retired)
+
+  csr-refuses : (op : Operation) (number operand : ℕ) → Refuses s (cond (ltb 4095 number) (some 2) none) (csrStep s op number operand)
   unfolding csrStep
   csr-refuses op number operand = go (ltb 4095 number) (illegal (s .registers) op number) (isPmp number)
     where
       go : (a b c : Bool)
-          → Refuses s (cond a 2 0)
+          → Refuses s (cond a (some 2) none)
           (cond a (refused s 2)
           (cond b (onRegisters s (illegalInstruction (s .registers)))
           (cond c (protectionStep s op number operand) (registerStep s op number operand))))
-      go true b c = (refl, λ z. refl)
-      go false true c = on-registers 0 (illegalInstruction (s .registers)) (raised-quiet (s .registers) 2 0)
-      go false false true = (refl, never)
-      go false false false = (refl, never)
+      go true b c = refl
+      go false true c = raised-quiet (s .registers) 2 0
+      go false false true = refl
+      go false false false = refl
 
-  decided-refuses : (access : Access) (address : ℕ) (d : Decision) → GrantOrFault access d → Refuses s 0 (accessDecided s address d)
-  decided-refuses access address d g =
-      ⊎-elim (λ e. rw e (refl, never))
-      (λ e. rw e (on-registers 0 (raised (s .registers) (faultCause access) address) (raised-quiet (s .registers) (faultCause access) address))) g
+  decided-refuses : (access : Access) (address : ℕ) (d : Decision) → GrantOrFault access d → Refuses s none (accessDecided s address d)
+  decided-refuses access address d g = ⊎-elim (λ e. rw e) (λ e. rw e (raised-quiet (s .registers) (faultCause access) address)) g
 
-  access-refuses : (access : Access) (address size : ℕ) → Refuses s (cond (isSize size) 0 1) (accessAt s access address size)
+  access-refuses : (access : Access) (address size : ℕ) → Refuses s (cond (isSize size) none (some 1)) (accessAt s access address size)
   unfolding accessAt checked
   access-refuses access address size = go (isSize size)
     where
       rule : Decision
       rule = byteRule (s .pmp .cfgs) (s .pmp .addrs) (effectiveMode (s .registers) access) access address size
 
-      go : (b : Bool) → Refuses s (cond b 0 1) (accessDecided s address (cond b rule (Decision.Refused 1)))
+      go : (b : Bool) → Refuses s (cond b none (some 1)) (accessDecided s address (cond b rule (Decision.Refused 1)))
       go true = decided-refuses access address rule (rule-answers (s .pmp .cfgs) (s .pmp .addrs) (effectiveMode (s .registers) access) access address size)
-      go false = (refl, λ z. refl)
+      go false = refl
 
   access-step-refuses : (access : Access) (address size : ℕ) → Refuses s (sizeRefusal access size) (accessStep s access address size)
   access-step-refuses Fetch address size = access-refuses Fetch (s .registers .pc) 4
@@ -90,33 +174,135 @@ module _ (s : State) where
   access-step-refuses Store address size = access-refuses Store address size
 
   effect-refuses : (step : Step) → Refuses s (argumentRefusal step) (effect s step)
-  effect-refuses Reset = (refl, never)
+  effect-refuses Reset = refl
   effect-refuses (Csr op number operand) = csr-refuses op number operand
   effect-refuses (AccessStep access address size) = access-step-refuses access address size
-  effect-refuses (EventStep event) = on-registers _ (eventStep (s .registers) event) (event-quiet (s .registers) event)
+  effect-refuses (EventStep event) = event-refuses event
 
 -- ---- the step with its map
 
-abbrev RefusesStep : Hart → Map → ℕ → Stepped → Type 0
-RefusesStep h map n r = (refusalOf (r .answer) ≡ n) × ((n ≡ 0 → ⊥) → (r .hart ≡ h) × (r .map ≡ map))
+with-map : (h : Hart) (map : Map) (table : Option ℕ) (e : Effect) → Refuses (h .state) table e → Handed h map table (withMap h map e)
+with-map h map none e q = q
+with-map h map (some n) e q = ap (withMap h map) q ∙ rw (same-pmp-refl (h .state .pmp))
 
-with-map : (h : Hart) (map : Map) (n : ℕ) (e : Effect) → Refuses (h .state) n e → RefusesStep h map n (withMap h map e)
-with-map h map n e q = (q .0, λ z. (ap hartWith (q .1 z), rw (q .1 z, same-pmp-refl (h .state .pmp))))
-
-step-refuses : (h : Hart) (map : Map) (step : Step) → RefusesStep h map (stepRefusal (h .state) step) (stepped h map step)
+step-handed : (h : Hart) (map : Map) (step : Step) → Handed h map (stepRefusal (h .state) step) (stepped h map step)
 unfolding stepped stepRule
-step-refuses h map step = go (isReset step) (canHold (h .state))
+step-handed h map step = go (isReset step) (canHold (h .state))
   where
     go : (a b : Bool)
-        → RefusesStep h map (cond a 0 (cond b (argumentRefusal step) 3))
+        → Handed h map (cond a none (cond b (argumentRefusal step) (some 3)))
         (cond a resetDone (withMap h map (cond (a || b) (effect (h .state) step) (refused (h .state) 3))))
-    go true b = (refl, never)
+    go true b = refl
     go false true = with-map h map (argumentRefusal step) (effect (h .state) step) (effect-refuses (h .state) step)
-    go false false = with-map h map 3 (refused (h .state) 3) (refl, λ z. refl)
+    go false false = with-map h map (some 3) (refused (h .state) 3) refl
+
+reset-never : (h : Hart) (map : Map) (n : ℕ) → stepped h map Reset .answer ≡ Refused n → ⊥
+reset-never h map n e = Option·none-ne-some n (handed-exactly h map none (stepped h map Reset) (step-handed h map Reset) n .0 e)
+
+-- ---- queries
+
+abbrev refusesAccess : Decision → Bool
+refusesAccess Decision.Granted = false
+refusesAccess (Decision.Fault cause) = false
+refusesAccess (Decision.Refused number) = true
+
+abbrev accessRefusal : Decision → ℕ
+accessRefusal Decision.Granted = 0
+accessRefusal (Decision.Fault cause) = 0
+accessRefusal (Decision.Refused number) = number
+
+abbrev Decided : Option ℕ → Decision → Type 0
+Decided = Tells Decision.Refused refusesAccess accessRefusal (λ n. refl) (λ n. refl)
+
+module _ (cfgs : List ℕ) (mode : Mode) (access : Access) (address size : ℕ) where
+  owner-decided : (owner : ℕ) → Decided none (ownerDecides cfgs mode access owner)
+  owner-decided owner = ⊎-elim (λ e. rw e) (λ e. rw e) (owner-answers cfgs mode access owner)
+
+  range-decided : (found : Found) → Decided (rangeRefusal found) (rangeDecides cfgs mode access address size found)
+  range-decided Nothing = refl
+  range-decided (At r) = go (leb (r .owner) noOwner) (everyByte (holdsByte r) size address)
+    where
+      go : (a b : Bool)
+          → Decided (cond a none (some 7))
+          (cond a (cond b (ownerDecides cfgs mode access (r .owner)) (Decision.Fault (faultCause access))) (Decision.Refused 7))
+      go true true = owner-decided (r .owner)
+      go true false = refl
+      go false b = refl
+
+query-decided : (h : Hart) (map : Map) (mode : Mode) (access : Access) (address size : ℕ)
+    → Decided (queryRefusal (h .state) map address size) (queryAnswer h map mode access address size)
+unfolding queryAnswer queried
+query-decided h map mode access address size = go (canHold (h .state)) (isSize size) (anyByte (leb top) size address)
+  where
+    cfgs : List ℕ
+    cfgs = h .state .pmp .cfgs
+
+    found : Found
+    found = findRange (rangesIn map) address
+
+    go : (a b c : Bool)
+        → Decided (cond a (cond b (cond c none (rangeRefusal found)) (some 1)) (some 3))
+        (cond a
+        (cond b (cond c (Decision.Fault (faultCause access)) (rangeDecides cfgs mode access address size found)) (Decision.Refused 1))
+        (Decision.Refused 3))
+    go true true true = refl
+    go true true false = range-decided cfgs mode access address size found
+    go true false c = refl
+    go false b c = refl
+
+-- ---- saving
+
+module _ (h : Hart) (buffer : List ℕ) where
+  save-told : Told (saveRefusal (h .state) buffer) (savedAnswer h buffer)
+  unfolding savedAnswer
+  save-told = go (canHold (h .state)) (leb 1027 (length buffer))
+    where
+      go : (a b : Bool) → Told (cond a (cond b none (some 6)) (some 3)) (cond a (cond b Done (Refused 6)) (Refused 3))
+      go true true = refl
+      go true false = refl
+      go false b = refl
+
+  save-unchanged : (n : ℕ) → savedAnswer h buffer ≡ Refused n → savedBuffer h buffer ≡ buffer
+  unfolding savedAnswer savedBuffer writtenTo
+  save-unchanged n = go (canHold (h .state)) (leb 1027 (length buffer))
+    where
+      text : List ℕ
+      text = textOf (wordsOf (h .state)) ++ drop 1027 buffer
+
+      go : (a b : Bool) → cond a (cond b Done (Refused 6)) (Refused 3) ≡ Refused n → cond a (cond b text buffer) buffer ≡ buffer
+      go true true e = contradiction (ap refuses e) refl
+      go true false e = refl
+      go false b e = refl
+
+-- ---- reading a text back
+
+read-handed : (h : Hart) (map : Map) (text : List ℕ) → Handed h map (restoreRefusal text) (restored h map text)
+unfolding restored restoredWords
+read-handed h map text = go (readText text .ok) (canHold s)
+  where
+    s : State
+    s = stateOf (readText text .words)
+
+    go : (a b : Bool)
+        → Handed h map (cond a (cond b none (some 5)) (some 4))
+        (cond a (cond b (restoredDone s) (handedBack h map (Refused 5))) (handedBack h map (Refused 4)))
+    go true true = refl
+    go true false = refl
+    go false b = refl
+
+-- ---- the whole table
 
 pub refusal-table : RefusalTable
 refusal-table =
     record {
-      number = λ h map step. step-refuses h map step .0;
-      unchanged = λ h map step z. step-refuses h map step .1 z;
+      step = λ h map step. handed-exactly h map (stepRefusal (h .state) step) (stepped h map step) (step-handed h map step);
+      step-unchanged = λ h map step. handed-unchanged h map (stepRefusal (h .state) step) (stepped h map step) (step-handed h map step);
+      reset-never = reset-never;
+      query = λ h map mode access address size.
+          exactly Decision.Refused refusesAccess accessRefusal (λ n. refl) (λ n. refl) (queryRefusal (h .state) map address size)
+          (queryAnswer h map mode access address size) (query-decided h map mode access address size);
+      save = λ h buffer. told-exactly (saveRefusal (h .state) buffer) (savedAnswer h buffer) (save-told h buffer);
+      save-unchanged = save-unchanged;
+      restore = λ h map text. handed-exactly h map (restoreRefusal text) (restored h map text) (read-handed h map text);
+      restore-unchanged = λ h map text. handed-unchanged h map (restoreRefusal text) (restored h map text) (read-handed h map text);
     }

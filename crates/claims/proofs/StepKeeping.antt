@@ -1,5 +1,5 @@
 -- What every step keeps, and the rule of its map. Assumes nothing.
-use mathlib.Core.Path.{_≡_, refl}
+use mathlib.Core.Path.{_≡_, refl, ap}
 use mathlib.Core.Bool.{false}
 use Rattle.bits.proofs.Conjunction.{not-true-false}
 use Rattle.steps.specs.declared.Step.{Step}
@@ -10,7 +10,9 @@ use Rattle.map.specs.declared.Map.{Map}
 use Rattle.engine.specs.Effects.{isReset, stepRule}
 use Rattle.engine.proofs.Holds.{rule-holds}
 use Rattle.hart.specs.declared.Hart.{Hart}
+use Rattle.hart.specs.declared.Stepped.{Stepped}
 use Rattle.hart.specs.Steps.{mapFor, resetDone, stepped}
+use Rattle.hart.proofs.StepLaws.{step-parts}
 use Rattle.claims.specs.Keeps.{StepKeeps}
 
 reset-given : (h : Hart) (map : Map) → stepped h map Reset ≡ resetDone
@@ -33,6 +35,8 @@ step-keeps =
     record {
       holdable = λ s step p. rule-holds s p step;
       reset = reset-given;
+      mapless = λ h map step.
+          (ap (λ (r : Stepped). r .hart .state) (step-parts h map step), ap (λ (r : Stepped). r .answer) (step-parts h map step));
       map-kept = map-kept;
       map-anew = map-anew;
     }

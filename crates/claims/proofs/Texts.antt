@@ -5,14 +5,13 @@ use mathlib.Core.Bool.{Bool, true, false, cond, false≢true}
 use mathlib.Core.List.{List, [], _∷_, _++_, append-nil}
 use native.Mathlib.Omega.{arith}
 use borrow.Author.Tests.{le-leb}
-use lib.ListN.{length, take, drop, replicate, drop-of-length-le}
+use lib.ListN.{length, take, drop, drop-of-length-le}
 use lib.Seq.{take-at}
 use Rattle.bits.specs.Lists.{elements, Words}
 use Rattle.steps.specs.declared.Answer.{Answer}
 use Rattle.steps.specs.declared.Answer.the-variants.{Done, DoneValue, DoneFlag, Granted, Trapped, Refused}
-use Rattle.protection.specs.Configs.{packed}
 use Rattle.state.specs.declared.State.{State}
-use Rattle.state.specs.Hold.{canHold, resetState}
+use Rattle.state.specs.Hold.{canHold}
 use Rattle.state.specs.Words.{wordsOf, stateOf}
 use Rattle.state.proofs.Back.{words-back, state-back}
 use Rattle.map.specs.declared.Map.{Map}
@@ -22,7 +21,7 @@ use Rattle.text.proofs.Form.{text-length}
 use Rattle.text.proofs.Laws.{read-text, text-read, read-words}
 use Rattle.hart.specs.declared.Hart.{Hart}
 use Rattle.hart.specs.declared.Stepped.{Stepped}
-use Rattle.hart.specs.Steps.{hartWith, handedBack}
+use Rattle.hart.specs.Steps.{handedBack}
 use Rattle.hart.specs.Saved.{textFor, savedAnswer, savedBuffer, restoredDone, restoredWords, restored}
 use Rattle.claims.specs.Texts.{Typed, SavedRestored, RestoredSaved, OneText, Lossless, resaved}
 
@@ -112,11 +111,6 @@ one-text f g h map map′ m n text other d e =
 
 pub lossless : Lossless
 lossless = record { saved-restored = saved-restored; restored-saved = restored-saved; one-text = one-text }
-
--- 01: the reset state is that text with every value 0 except mode 3, pc 1000, mstatus a00000000
-pub reset-text : textFor (hartWith resetState) ≡ textOf (3 ∷ 0x1000 ∷ 0xA00000000 ∷ replicate 38 0)
-unfolding packed elements wordsOf
-reset-text = refl
 
 -- ---- saving to a buffer of the text's length and reading it back
 

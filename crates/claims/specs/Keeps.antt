@@ -15,6 +15,9 @@ pub record StepKeeps : Type 0 where
   pub holdable : (s : State) (step : Step) → canHold s ≡ true → canHold (stepRule s step .state) ≡ true
   -- step 0 hands back the reset state and the reset map, whatever was given
   pub reset : (h : Hart) (map : Map) → stepped h map Reset ≡ resetDone
+  -- "only a query reads a map": state and answer are the step rule's, whatever map was given
+  pub mapless : (h : Hart) (map : Map) (step : Step)
+      → (stepped h map step .hart .state ≡ stepRule (h .state) step .state) × (stepped h map step .answer ≡ stepRule (h .state) step .answer)
   -- any other step hands the map back as given where no protection register differs, and else one compiled for the new registers
   pub map-kept : (h : Hart) (map : Map) (step : Step) → isReset step ≡ false → h .state .pmp ≡ stepRule (h .state) step .state .pmp
       → stepped h map step .map ≡ map

@@ -1,41 +1,115 @@
--- 01, "Steps": the table of refusals, as far as it is about steps, and its order; a refusal changes nothing.
-use Prim.Native.Nat.{ℕ}
+-- 01, "Steps": the table of refusals and its order. A refusal returns its number and no more, and changes nothing.
+use Prim.Native.Nat.{ℕ, _^_}
 use mathlib.Core.Path.{_≡_}
-use mathlib.Core.Bool.{cond}
-use lib.Dec.{ltb}
+use mathlib.Core.Bool.{Bool, cond, _||_}
+use mathlib.Core.List.{List}
+use mathlib.Core.Logic.{_↔_}
+use mathlib.Core.Option.{Option, none, some}
+use lib.Bits.{bitAnd}
+use lib.Dec.{eqb, leb, ltb}
+use lib.ListN.{length}
+use Rattle.pmp.specs.declared.Mode.{Mode}
 use Rattle.pmp.specs.declared.Access.{Access}
 use Rattle.pmp.specs.declared.Access.the-variants.{Fetch, Load, Store}
-use Rattle.pmp.specs.Rule.{isSize}
+use Rattle.pmp.specs.declared.Decision.{Decision}
+use Rattle.pmp.specs.Search.{anyByte}
+use Rattle.steps.specs.declared.Event.{Event}
+use Rattle.steps.specs.declared.Event.the-variants.{Raise, Lines, TakeInterrupt, Mret, Sret, Wfi, Ecall, Ebreak, Advance, Elapsed}
 use Rattle.steps.specs.declared.Step.{Step}
 use Rattle.steps.specs.declared.Step.the-variants.{Reset, Csr, Access as AccessStep, Event as EventStep}
-use Rattle.steps.specs.Number.{refusalOf}
+use Rattle.steps.specs.declared.Answer.the-variants.{Refused}
 use Rattle.state.specs.declared.State.{State}
 use Rattle.state.specs.Hold.{canHold}
-use Rattle.trap.specs.Events.{eventRefusal}
+use Rattle.state.specs.Words.{stateOf}
 use Rattle.map.specs.declared.Map.{Map}
+use Rattle.map.specs.declared.Found.{Found}
+use Rattle.map.specs.declared.Found.the-variants.{At, Nothing}
+use Rattle.map.specs.Lookup.{findRange, rangesIn}
+use Rattle.text.specs.Text.{readText}
 use Rattle.engine.specs.Effects.{isReset}
 use Rattle.hart.specs.declared.Hart.{Hart}
-use Rattle.hart.specs.Steps.{stepped}
+use Rattle.hart.specs.Steps.{handedBack, stepped}
+use Rattle.hart.specs.Queries.{queryAnswer}
+use Rattle.hart.specs.Saved.{savedAnswer, savedBuffer, restored}
 
--- 1: a load or store has a size other than 1, 2, 4, 8
-abbrev pub sizeRefusal : Access → ℕ → ℕ
-sizeRefusal Fetch size = 0
-sizeRefusal Load size = cond (isSize size) 0 1
-sizeRefusal Store size = cond (isSize size) 0 1
+-- ---- the table: the number of the refusal, or none
 
--- 2: CSR number above 4095; raise cause above 7; lines outside 0xA88
-abbrev pub argumentRefusal : Step → ℕ
-argumentRefusal Reset = 0
-argumentRefusal (Csr op number operand) = cond (ltb 4095 number) 2 0
+-- 1, 2, 4 or 8
+abbrev pub sizeNamed : ℕ → Bool
+sizeNamed size = eqb size 1 || (eqb size 2 || (eqb size 4 || eqb size 8))
+
+-- 1: step 15 or 16 has a size other than 1, 2, 4, 8
+abbrev pub sizeRefusal : Access → ℕ → Option ℕ
+sizeRefusal Fetch size = none
+sizeRefusal Load size = cond (sizeNamed size) none (some 1)
+sizeRefusal Store size = cond (sizeNamed size) none (some 1)
+
+-- 2: raise cause above 7; lines outside 0xA88
+abbrev pub eventRefusal : Event → Option ℕ
+eventRefusal (Raise cause tval) = cond (leb cause 7) none (some 2)
+eventRefusal (Lines lines) = cond (eqb (bitAnd lines 0xA88) lines) none (some 2)
+eventRefusal TakeInterrupt = none
+eventRefusal Mret = none
+eventRefusal Sret = none
+eventRefusal Wfi = none
+eventRefusal Ecall = none
+eventRefusal Ebreak = none
+eventRefusal (Advance target) = none
+eventRefusal (Elapsed cycles retired) = none
+
+-- 2: CSR number above 4095
+abbrev pub argumentRefusal : Step → Option ℕ
+argumentRefusal Reset = none
+argumentRefusal (Csr op number operand) = cond (ltb 4095 number) (some 2) none
 argumentRefusal (AccessStep access address size) = sizeRefusal access size
 argumentRefusal (EventStep event) = eventRefusal event
 
--- 3 comes first: the state given is not one a hart can hold; step 0 is never refused
-abbrev pub stepRefusal : State → Step → ℕ
-stepRefusal s step = cond (isReset step) 0 (cond (canHold s) (argumentRefusal step) 3)
+-- 3 before 1 and 2: the state given is not one a hart can hold; step 0 is never refused
+abbrev pub stepRefusal : State → Step → Option ℕ
+stepRefusal s step = cond (isReset step) none (cond (canHold s) (argumentRefusal step) (some 3))
 
--- a step is refused exactly when the table says, with its number, and hart and map are then what went in
+-- 7: no range holds the first byte, or the owner of the range read is not 0 to 15 or "none", which is 16
+abbrev pub rangeRefusal : Found → Option ℕ
+rangeRefusal Nothing = some 7
+rangeRefusal (At r) = cond (leb (r .owner) 16) none (some 7)
+
+-- 3 before 1, and 1 before 7, which is given where all bytes lie below 2^56
+abbrev pub queryRefusal : State → Map → ℕ → ℕ → Option ℕ
+queryRefusal s map address size =
+    cond (canHold s)
+    (cond (sizeNamed size)
+    (cond (anyByte (leb (2 ^ 56)) size address) none (rangeRefusal (findRange (rangesIn map) address)))
+    (some 1))
+    (some 3)
+
+-- 3 before 6: the buffer for saving is shorter than 1,027 bytes
+abbrev pub saveRefusal : State → List ℕ → Option ℕ
+saveRefusal s buffer = cond (canHold s) (cond (leb 1027 (length buffer)) none (some 6)) (some 3)
+
+-- 4 before 5: the text is not in the saved form; its state is not one a hart can hold
+abbrev pub restoreRefusal : List ℕ → Option ℕ
+restoreRefusal text = cond (readText text .ok) (cond (canHold (stateOf (readText text .words))) none (some 5)) (some 4)
+
+-- ---- what is claimed
+
+-- an answer refuses with n exactly when the table gives n
+abbrev pub Exactly : (ℕ → Type 0) → Option ℕ → Type 0
+Exactly RefusedWith table = (n : ℕ) → RefusedWith n ↔ (table ≡ some n)
+
 pub record RefusalTable : Type 0 where
-  pub number : (h : Hart) (map : Map) (step : Step) → refusalOf (stepped h map step .answer) ≡ stepRefusal (h .state) step
-  pub unchanged : (h : Hart) (map : Map) (step : Step) → (stepRefusal (h .state) step ≡ 0 → ⊥)
-      → (stepped h map step .hart ≡ h) × (stepped h map step .map ≡ map)
+  -- a step, and a refused one hands back the hart and map that went in
+  pub step : (h : Hart) (map : Map) (step : Step) → Exactly (λ n. stepped h map step .answer ≡ Refused n) (stepRefusal (h .state) step)
+  pub step-unchanged : (h : Hart) (map : Map) (step : Step) (n : ℕ) → stepped h map step .answer ≡ Refused n
+      → stepped h map step ≡ handedBack h map (Refused n)
+  -- step 0 is never refused
+  pub reset-never : (h : Hart) (map : Map) (n : ℕ) → stepped h map Reset .answer ≡ Refused n → ⊥
+  -- a query, which hands back its answer and nothing that could change
+  pub query : (h : Hart) (map : Map) (mode : Mode) (access : Access) (address size : ℕ)
+      → Exactly (λ n. queryAnswer h map mode access address size ≡ Decision.Refused n) (queryRefusal (h .state) map address size)
+  -- a save, and a refused one leaves the buffer as it was
+  pub save : (h : Hart) (buffer : List ℕ) → Exactly (λ n. savedAnswer h buffer ≡ Refused n) (saveRefusal (h .state) buffer)
+  pub save-unchanged : (h : Hart) (buffer : List ℕ) (n : ℕ) → savedAnswer h buffer ≡ Refused n → savedBuffer h buffer ≡ buffer
+  -- reading a text back, and a refused one hands back the hart and map that went in
+  pub restore : (h : Hart) (map : Map) (text : List ℕ) → Exactly (λ n. restored h map text .answer ≡ Refused n) (restoreRefusal text)
+  pub restore-unchanged : (h : Hart) (map : Map) (text : List ℕ) (n : ℕ) → restored h map text .answer ≡ Refused n
+      → restored h map text ≡ handedBack h map (Refused n)

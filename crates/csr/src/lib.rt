@@ -9,4 +9,3 @@ pub use operation::value_written;
 pub use permit::attempts_write;
 pub use permit::is_illegal;
 pub use show::read;
-pub use store::write;

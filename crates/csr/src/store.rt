@@ -25,7 +25,7 @@ fn tvec_written(old: u64, value: u64) -> u64
 }
 
 // The registers after a write of any value to any number.
-pub fn write(r: Registers, number: u64, value: u64) -> Registers
+pub(crate) fn write(r: Registers, number: u64, value: u64) -> Registers
     ensures { λ after. ⌜ after ≡ registersWritten r number value ⌝ }
 {
     let mut w = r;

@@ -68,8 +68,8 @@ pub(crate) fn take(words: &mut [u64], held: bool, step: Step) -> Taken
     }
 }
 
-// A step on the words of a hart, which their state determines. Refusal 3 goes by `held`, which says whether a hart can hold that state: each step tells it of
-// the state that it leaves.
+// A step on the words of a hart, which their state determines. Refusal 3 goes by `held`: whoever calls says whether a hart can hold that state, and where that is
+// true the step says it truly of the state that it leaves.
 pub fn step(words: &mut [u64; 41], held: bool, step: Step) -> Taken
     ensures { λ r. ⌜ r ≡ stepTaken held (stateOf (now (words .entry))) step ⌝ }
     ensures { λ _. ⌜ stateOf (now (words .exit)) ≡ ruledBy held (stateOf (now (words .entry))) step .state ⌝ }

@@ -1,4 +1,5 @@
 -- Laws of the definitions.
+pub mod Numbered
 pub mod StepLaws
 pub mod LeftLaws
 pub mod SavedLaws

@@ -1,10 +1,12 @@
 -- 01, "Protection, byte by byte": the access query, which reads one range of a map.
 use Prim.Native.Nat.{ℕ}
 use mathlib.Core.Bool.{cond}
+use mathlib.Core.List.{List}
 use Rattle.pmp.specs.declared.Mode.{Mode}
 use Rattle.pmp.specs.declared.Access.{Access}
 use Rattle.pmp.specs.declared.Decision.{Decision}
 use Rattle.pmp.specs.declared.Decision.the-variants.{Refused}
+use Rattle.steps.specs.Number.{decisionNumbers}
 use Rattle.map.specs.declared.Map.{Map}
 use Rattle.map.specs.Query.{queried}
 use Rattle.hart.specs.declared.Hart.{Hart}
@@ -14,3 +16,7 @@ use Rattle.state.specs.Hold.{canHold}
 unfoldable pub queryAnswer : Hart → Map → Mode → Access → ℕ → ℕ → Decision
 queryAnswer h map mode access address size =
     cond (canHold (h .state)) (queried (h .state .pmp .cfgs) map mode access address size) (Refused 3)
+
+-- the number and values of its answer
+abbrev pub queryNumbers : Hart → Map → Mode → Access → ℕ → ℕ → List ℕ
+queryNumbers h map mode access address size = decisionNumbers (queryAnswer h map mode access address size)

@@ -3,11 +3,10 @@ use Prim.Native.Nat.{ℕ}
 use mathlib.Core.List.{List}
 use Rattle.bits.specs.Fold.{fold, outputs}
 use Rattle.steps.specs.declared.Step.{Step}
-use Rattle.steps.specs.Number.{answerNumbers}
 use Rattle.map.specs.declared.Map.{Map}
 use Rattle.hart.specs.declared.Hart.{Hart}
 use Rattle.hart.specs.declared.Mapped.{Mapped}
-use Rattle.hart.specs.Steps.{stepped}
+use Rattle.hart.specs.Steps.{stepped, stepNumbers}
 
 -- a hart with a map
 abbrev pub with : Hart → Map → Mapped
@@ -22,4 +21,4 @@ leftBy h map steps = fold handedOn (with h map) steps
 
 -- the answers, three numbers each
 abbrev pub answersBy : Hart → Map → List Step → List ℕ
-answersBy h map steps = outputs handedOn (λ m step. answerNumbers (stepped (m .hart) (m .map) step .answer)) (with h map) steps
+answersBy h map steps = outputs handedOn (λ m step. stepNumbers (m .hart) (m .map) step) (with h map) steps

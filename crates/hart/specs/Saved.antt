@@ -4,6 +4,7 @@ use mathlib.Core.Bool.{cond}
 use mathlib.Core.List.{List}
 use Rattle.steps.specs.declared.Answer.{Answer}
 use Rattle.steps.specs.declared.Answer.the-variants.{Done, Refused}
+use Rattle.steps.specs.Number.{answerNumbers}
 use Rattle.state.specs.declared.State.{State}
 use Rattle.state.specs.Hold.{canHold}
 use Rattle.state.specs.Words.{wordsOf, stateOf}
@@ -21,6 +22,10 @@ textFor h = textOf (wordsOf (h .state))
 unfoldable pub savedAnswer : Hart → List ℕ → Answer
 savedAnswer h buffer = cond (canHold (h .state)) (cond (holdsText buffer) Done (Refused 6)) (Refused 3)
 
+-- the number and values of that answer
+abbrev pub savedNumbers : Hart → List ℕ → List ℕ
+savedNumbers h buffer = answerNumbers (savedAnswer h buffer)
+
 -- bytes of a longer buffer past 1,027 are unchanged; a refused save leaves the buffer as it was
 unfoldable pub savedBuffer : Hart → List ℕ → List ℕ
 savedBuffer h buffer = cond (canHold (h .state)) (writtenTo (wordsOf (h .state)) buffer) buffer
@@ -36,3 +41,7 @@ restoredWords h map words = cond (canHold (stateOf words)) (restoredDone (stateO
 -- refusal 4: the text is not in the saved form; a refused text hands back the hart and map that went in
 unfoldable pub restored : Hart → Map → List ℕ → Stepped
 restored h map text = cond (readText text .ok) (restoredWords h map (readText text .words)) (handedBack h map (Refused 4))
+
+-- the number and values of its answer
+abbrev pub restoredNumbers : Hart → Map → List ℕ → List ℕ
+restoredNumbers h map text = answerNumbers (restored h map text .answer)

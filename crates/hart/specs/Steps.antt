@@ -1,9 +1,11 @@
 -- 01, "Steps": a step by a hart takes the state and its map and hands both back.
 use Prim.Native.Nat.{ℕ}
 use mathlib.Core.Bool.{cond}
+use mathlib.Core.List.{List}
 use Rattle.steps.specs.declared.Step.{Step}
 use Rattle.steps.specs.declared.Answer.{Answer}
 use Rattle.steps.specs.declared.Answer.the-variants.{Done, Refused}
+use Rattle.steps.specs.Number.{answerNumbers}
 use Rattle.protection.specs.declared.Pmp.{Pmp}
 use Rattle.protection.specs.Hold.{resetPmp}
 use Rattle.protection.specs.Same.{samePmp}
@@ -44,3 +46,7 @@ resetDone = handedBack (resetMapped .hart) (resetMapped .map) Done
 -- a step of any state, held or not
 unfoldable pub stepped : Hart → Map → Step → Stepped
 stepped h map step = cond (isReset step) resetDone (withMap h map (stepRule (h .state) step))
+
+-- the number and values of its answer
+abbrev pub stepNumbers : Hart → Map → Step → List ℕ
+stepNumbers h map step = answerNumbers (stepped h map step .answer)

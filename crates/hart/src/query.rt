@@ -5,12 +5,14 @@ use pmp::Access;
 use pmp::Decision;
 use pmp::Mode;
 ghost use mathlib.Core.Path.{_≡_};
-ghost use Rattle.hart.specs.Queries.{queryAnswer};
+ghost use Rattle.steps.specs.Number.{decisionNumbers};
+ghost use Rattle.hart.specs.Queries.{queryAnswer, queryNumbers};
 
 impl Hart {
     // What a map says of an access: refusals 3, 1 and 7, or one range of it decides.
     pub fn query(self, map: Map, mode: Mode, access: Access, address: u64, size: u64) -> Decision
         ensures { λ r. ⌜ r ≡ queryAnswer self map mode access address size ⌝ }
+        ensures { λ r. ⌜ decisionNumbers r ≡ queryNumbers self map mode access address size ⌝ }
     {
         if self.can_hold() {
             let state = self.state;

@@ -5,12 +5,14 @@ use crate::stepping::map_for;
 use map::Map;
 use steps::Answer;
 ghost use mathlib.Core.Path.{_≡_};
-ghost use Rattle.hart.specs.Saved.{savedAnswer, savedBuffer, restored};
+ghost use Rattle.steps.specs.Number.{answerNumbers};
+ghost use Rattle.hart.specs.Saved.{savedAnswer, savedNumbers, savedBuffer, restored, restoredNumbers};
 
 impl Hart {
     // Writes the hart's text to the front of a buffer. A refused save leaves the buffer as it was.
     pub fn save(self, buffer: &mut [u8]) -> Answer
         ensures { λ r. ⌜ r ≡ savedAnswer self (now (buffer .entry)) ⌝ }
+        ensures { λ r. ⌜ answerNumbers r ≡ savedNumbers self (now (buffer .entry)) ⌝ }
         ensures { λ _. ⌜ now (buffer .exit) ≡ savedBuffer self (now (buffer .entry)) ⌝ }
     {
         if !self.can_hold() {
@@ -27,6 +29,7 @@ impl Hart {
     // Reads a text back: its hart, with the map compiled for it. A refused text hands back the hart and map that were given.
     pub fn restore(self, map: Map, text: &[u8]) -> Stepped
         ensures { λ r. ⌜ r ≡ restored self map (now (text .entry)) ⌝ }
+        ensures { λ r. ⌜ answerNumbers (r .answer) ≡ restoredNumbers self map (now (text .entry)) ⌝ }
     {
         let reading = text::read(text);
         if !reading.ok {

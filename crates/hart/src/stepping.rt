@@ -6,8 +6,9 @@ use map::Map;
 use protection::Pmp;
 use steps::Step;
 ghost use mathlib.Core.Path.{_≡_};
+ghost use Rattle.steps.specs.Number.{answerNumbers};
 ghost use Rattle.state.specs.Hold.{canHold};
-ghost use Rattle.hart.specs.Steps.{mapFor, resetMapped, stepped};
+ghost use Rattle.hart.specs.Steps.{mapFor, resetMapped, stepped, stepNumbers};
 
 // The map of protection registers.
 pub fn map_for(pmp: Pmp) -> Map
@@ -41,6 +42,7 @@ impl Hart {
     // One step: what 01's "Steps" says of it. A refusal hands back hart and map as they were.
     pub fn step(self, map: Map, step: Step) -> Stepped
         ensures { λ r. ⌜ r ≡ stepped self map step ⌝ }
+        ensures { λ r. ⌜ answerNumbers (r .answer) ≡ stepNumbers self map step ⌝ }
     {
         let state = self.state;
         let held = state::can_hold(state);

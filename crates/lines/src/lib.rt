@@ -14,7 +14,7 @@ pub struct Field {
 }
 
 // The lower-case hexadecimal digit of the lowest four bits.
-pub fn hex_digit(number: u64) -> u8
+fn hex_digit(number: u64) -> u8
     ensures { λ r. ⌜ r ≡ hexDigit (number % 16) ⌝ }
 {
     let digit = (number % 16) as u8;
@@ -22,7 +22,7 @@ pub fn hex_digit(number: u64) -> u8
 }
 
 // What a lower-case hexadecimal digit stands for.
-pub fn digit_value(byte: u8) -> u64
+fn digit_value(byte: u8) -> u64
     ensures { λ r. ⌜ r ≡ digitValue byte ⌝ }
 {
     let code = byte as u64;

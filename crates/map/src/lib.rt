@@ -134,7 +134,7 @@ fn holds(range: Range, byte: u64) -> bool
 }
 
 // The lowest-numbered range of the map that holds the byte.
-pub fn find(map: Map, byte: u64) -> Found
+fn find(map: Map, byte: u64) -> Found
     ensures { λ r. ⌜ r ≡ findRange (rangesIn map) byte ⌝ }
 {
     let n = count_read(map.count);

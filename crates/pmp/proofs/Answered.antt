@@ -1,4 +1,4 @@
--- The byte rule grants, or faults with the cause of the access's kind, and never refuses. Assumes nothing.
+-- The byte rule and an owner grant, or fault with the cause of the access's kind, and never refuse. Assumes nothing.
 use Prim.Native.Nat.{ℕ}
 use mathlib.Core.Path.{_≡_, refl}
 use mathlib.Core.Bool.{cond}
@@ -16,7 +16,7 @@ use Rattle.pmp.specs.declared.Decision.the-variants.{Granted, Fault, Ref
 use Rattle.pmp.specs.Number.{faultCause}
 use Rattle.pmp.specs.Search.{anyByte, everyByte}
 use Rattle.pmp.specs.Entry.{top, entries, locked, matches}
-use Rattle.pmp.specs.Rule.{permission, byPermission, entryDecides, noneDecides, matchDecides, lowestMatch, byteRule}
+use Rattle.pmp.specs.Rule.{permission, byPermission, entryDecides, noneDecides, ownerDecides, matchDecides, lowestMatch, byteRule}
 
 abbrev pub GrantOrFault : Access → Decision → Type 0
 GrantOrFault access d = (d ≡ Granted) ⊎ (d ≡ Fault (faultCause access))
@@ -35,6 +35,11 @@ by-none : (mode : Mode) (access : Access) → GrantOrFault access (noneDecides m
 by-none User access = inr refl
 by-none Supervisor access = inr refl
 by-none Machine access = inl refl
+
+pub owner-answers : (cfgs : List ℕ) (mode : Mode) (access : Access) (owner : ℕ) → GrantOrFault access (ownerDecides cfgs mode access owner)
+owner-answers cfgs mode access owner =
+    by-test (GrantOrFault access) (ltb owner entries) (entryDecides mode access (getD cfgs owner 0)) (noneDecides mode access)
+    (λ t. by-entry mode access (getD cfgs owner 0)) (λ t. by-none mode access)
 
 pub rule-answers : (cfgs addrs : List ℕ) (mode : Mode) (access : Access) (address size : ℕ)
     → GrantOrFault access (byteRule cfgs addrs mode access address size)

@@ -9,7 +9,7 @@ ghost use Rattle.pmp.specs.Entry.{top, trailingOnes, napot, spanOf, fiel
 const TOP_WORD: u64 = 0x40000000000000;
 
 // The number of ones at the low end of a word.
-pub fn trailing_ones(word: u64) -> u32
+fn trailing_ones(word: u64) -> u32
     ensures { λ r. ⌜ r ≡ trailingOnes 64 word ⌝ }
 {
     u64::trailing_zeros(!word)

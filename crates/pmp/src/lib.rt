@@ -6,11 +6,9 @@ mod search;
 
 pub use entry::entry_span;
 pub use entry::is_locked;
-pub use entry::trailing_ones;
 pub use modes::is_mode;
 pub use modes::mode_of;
 pub use rule::check;
-pub use rule::entry_decides;
 pub use rule::fault_cause;
 pub use rule::is_size;
 pub use rule::owner_decides;

@@ -46,7 +46,7 @@ fn permission_decides(access: Access, cfg: u8) -> Decision
 }
 
 // What an entry that matches every byte decides: unlocked it grants all in machine mode, and else its permission bits decide.
-pub fn entry_decides(mode: Mode, access: Access, cfg: u8) -> Decision
+fn entry_decides(mode: Mode, access: Access, cfg: u8) -> Decision
     ensures { λ r. ⌜ r ≡ entryDecides mode access cfg ⌝ }
 {
     match mode {

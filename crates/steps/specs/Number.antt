@@ -1,7 +1,8 @@
--- 01, "Steps" and "Traps, returns, time": the numbers of each case of an answer, and its values.
+-- 01, "Steps", "Traps, returns, time" and "Protection, byte by byte": the numbers of each case of an answer and of a decision, and their values.
 use Prim.Native.Nat.{ℕ, _+_, _^_}
 use mathlib.Core.Bool.{cond}
 use mathlib.Core.List.{List, [], _∷_}
+use Rattle.pmp.specs.declared.Decision.{Decision}
 use Rattle.steps.specs.declared.Level.{Level}
 use Rattle.steps.specs.declared.Level.the-variants.{Supervisor, Machine}
 use Rattle.steps.specs.declared.Trap.{Trap}
@@ -42,6 +43,12 @@ answerNumbers (DoneFlag b) = 2 ∷ cond b 1 0 ∷ 0 ∷ []
 answerNumbers Granted = 3 ∷ 0 ∷ 0 ∷ []
 answerNumbers (Trapped trap level) = 4 ∷ causeNumber trap ∷ levelNumber level ∷ []
 answerNumbers (Refused n) = 5 ∷ n ∷ 0 ∷ []
+
+-- a decision on an access has the numbers of the answers granted and refused; a fault is the case 6, with its cause
+abbrev pub decisionNumbers : Decision → List ℕ
+decisionNumbers Decision.Granted = answerNumbers Granted
+decisionNumbers (Decision.Fault cause) = 6 ∷ cause ∷ 0 ∷ []
+decisionNumbers (Decision.Refused number) = answerNumbers (Refused number)
 
 -- the number of a refusal, and 0 for any other answer
 abbrev pub refusalOf : Answer → ℕ

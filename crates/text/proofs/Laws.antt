@@ -2,10 +2,9 @@
 use Prim.Native.Nat.{ℕ}
 use mathlib.Core.Path.{_≡_, refl, sym, ap, _∙_}
 use mathlib.Core.Bool.{Bool, true, false, cond}
-use mathlib.Core.List.{List, _∷_}
+use mathlib.Core.List.{List}
 use native.Mathlib.Omega.{arith}
-use lib.ListN.{replicate}
-use Rattle.lines.specs.Lines.{bytesOf, hexDigits, lineOf, linesOf, wordsIn, isText}
+use Rattle.lines.specs.Lines.{linesOf, wordsIn, isText}
 use Rattle.bits.specs.Lists.{Words}
 use Rattle.lines.proofs.Back.{text-only, words-found, words-back, is-text}
 use Rattle.text.specs.declared.Reading.{Reading}
@@ -47,8 +46,3 @@ read-words t ws e = go (isText keys t) e
         let w : Words 41 (wordsIn keys t) = words-found keys t in
         rw v at w
     go false q = let z : false ≡ true = ap (λ (r : Reading). r .ok) q in let y : _≡_ {A = ℕ} 0 1 = cc in absurd (omega arith)
-
--- 01: the reset state is that text with every value 0 except mode 3, pc 1000, mstatus a00000000
-pub reset-text : textOf (3 ∷ 0x1000 ∷ 0xa00000000 ∷ replicate 38 0) ≡ bytesOf "mode=0000000000000003\npc=0000000000001000\nmstatus=0000000a00000000\nmedeleg=0000000000000000\nmideleg=0000000000000000\nmie=0000000000000000\nmip=0000000000000000\nlines=0000000000000000\nmtvec=0000000000000000\nmcounteren=0000000000000000\nmcountinhibit=0000000000000000\nmscratch=0000000000000000\nmepc=0000000000000000\nmcause=0000000000000000\nmtval=0000000000000000\nstvec=0000000000000000\nscounteren=0000000000000000\nsscratch=0000000000000000\nsepc=0000000000000000\nscause=0000000000000000\nstval=0000000000000000\nmcycle=0000000000000000\nminstret=0000000000000000\npmpcfg0=0000000000000000\npmpcfg2=0000000000000000\npmpaddr0=0000000000000000\npmpaddr1=0000000000000000\npmpaddr2=0000000000000000\npmpaddr3=0000000000000000\npmpaddr4=0000000000000000\npmpaddr5=0000000000000000\npmpaddr6=0000000000000000\npmpaddr7=0000000000000000\npmpaddr8=0000000000000000\npmpaddr9=0000000000000000\npmpaddr10=0000000000000000\npmpaddr11=0000000000000000\npmpaddr12=0000000000000000\npmpaddr13=0000000000000000\npmpaddr14=0000000000000000\npmpaddr15=0000000000000000\n"
-unfolding bytesOf keys hexDigits lineOf linesOf textOf
-reset-text = refl

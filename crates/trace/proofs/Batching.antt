@@ -1,12 +1,12 @@
 -- The loop over the records of a batch. Assumes nothing.
-use Prim.Native.Nat.{ℕ, zero, suc, _+_, _-_, _*_, _%_, _^_, _≤_, _<_}
+use Prim.Native.Nat.{ℕ, zero, suc, _+_, _-_, _*_, _/_, _%_, _^_, _≤_, _<_}
 use mathlib.Core.Path.{_≡_, refl, sym, ap, _∙_}
 use mathlib.Core.Bool.{Bool, true, false, cond, _||_}
 use mathlib.Core.List.{List, [], _∷_, _++_}
 use native.Mathlib.Omega.{arith}
 use native.Mathlib.Nat.{zero-add}
 use lib.ListN.{length, take, drop, length-append}
-use lib.Seq.{sets, length-sets, sets-eq, drop-drop}
+use lib.Seq.{sets, length-sets, drop-drop}
 use Rattle.bits.specs.Fold.{fold, outputs, anyStep}
 use Rattle.steps.specs.declared.Step.{Step}
 use Rattle.steps.specs.declared.Decoded.{Decoded}
@@ -25,12 +25,11 @@ use Rattle.hart.specs.Steps.{mapFor, hartWith, handedBack, stepped}
 use Rattle.hart.proofs.StepLaws.{step-parts}
 use Rattle.hart.proofs.LeftLaws.{pmp-stays}
 use Rattle.trace.specs.declared.Replay.{Replay}
-use Rattle.trace.specs.declared.Written.{Written}
 use Rattle.trace.specs.Records.{readStep}
-use Rattle.trace.specs.Buffers.{Put, atFront}
+use Rattle.trace.specs.Buffers.{Put}
 use Rattle.trace.specs.Answers.{answerLine, brokenLine}
 use Rattle.trace.specs.Batches.{afterStep, afterDecoded, decodedLine, afterRecord, recordLine, recordsOf, afterRecords, recordLines}
-use Rattle.trace.specs.Batches.{recordsIn, batchLines, batched, carried}
+use Rattle.trace.specs.Batches.{afterInput, inputLines, carried}
 use Rattle.trace.proofs.Writing.{sets-append, answer-length, broken-length}
 
 -- ---- records that do nothing more
@@ -71,7 +70,7 @@ line-length r t = go (r .stopped) (readStep t)
     go false (Formed step) = answer-length (stepped (r .hart) (r .map) step .answer)
     go false Nothing = broken-length (r .number)
 
-lines-length : (n : ℕ) (r : Replay) (t : List ℕ) → length (recordLines n r t) ≤ 64 * n
+pub lines-length : (n : ℕ) (r : Replay) (t : List ℕ) → length (recordLines n r t) ≤ 64 * n
 unfolding recordsOf outputs
 lines-length zero r t = omega arith
 lines-length (suc n) r t =
@@ -131,22 +130,22 @@ module _ (s : State) (step : Step) {x : State} {held : Bool} {t : Taken} (h : he
 -- ---- the loop
 
 -- what is left of the input does with the replay at hand what the whole does with the first
-pub record Turn (input before : List ℕ) (total : ℕ) (start : Replay) (out : List ℕ) (left : ℕ) (here : Replay) (filled at : ℕ) : Type 0 where
+pub record Turn (input before : List ℕ) (start : Replay) (out : List ℕ) (left : ℕ) (here : Replay) (filled at : ℕ) : Type 0 where
   pub within : at + 60 * left ≤ length input
   pub room : filled + 64 * left ≤ length out
   pub same : length out ≡ length before
-  pub replay : afterRecords total start input ≡ afterRecords left here (drop at input)
-  pub lines : sets before 0 (recordLines total start input) ≡ sets out filled (recordLines left here (drop at input))
-  pub bytes : length (recordLines total start input) ≡ filled + length (recordLines left here (drop at input))
+  pub replay : afterInput start input ≡ afterRecords left here (drop at input)
+  pub lines : sets before 0 (inputLines start input) ≡ sets out filled (recordLines left here (drop at input))
+  pub bytes : length (inputLines start input) ≡ filled + length (recordLines left here (drop at input))
 
-pub turn-start : (input out : List ℕ) (n : ℕ) (r : Replay) → n ≡ recordsIn input out → Turn input out n r out n r 0 0
-turn-start input out n r e = record {
+pub turn-start : (input out : List ℕ) (r : Replay) → length input / 60 ≤ length out / 64 → Turn input out r out (length input / 60) r 0 0
+turn-start input out r h = record {
   within = omega arith;
   room = omega arith;
   same = refl;
   replay = refl;
   lines = refl;
-  bytes = sym (zero-add (length (recordLines n r input)));
+  bytes = sym (zero-add (length (inputLines r input)));
 }
 
 -- the record at a place
@@ -158,12 +157,12 @@ read-here input at e =
     let k : (at + 60) - at ≡ 60 = omega arith in
     sym (e ∙ ap (λ (n : ℕ). readStep (take n (drop at input))) k)
 
-module _ {input before : List ℕ} {total : ℕ} {start : Replay} {out : List ℕ} {left : ℕ} {here : Replay} {filled at : ℕ}
-    (turn : Turn input before total start out left here filled at) where
+module _ {input before : List ℕ} {start : Replay} {out : List ℕ} {left : ℕ} {here : Replay} {filled at : ℕ}
+    (turn : Turn input before start out left here filled at) where
   -- one record more, from what it leaves and its line
   turn-next : (there : Replay) (line after : List ℕ) (next : ℕ) → 0 < left
       → (afterRecord here (recordAt input at) ≡ there) × (recordLine here (recordAt input at) ≡ line) → length line ≤ 64
-      → Put out filled line after next → Turn input before total start after (left - 1) there next (at + 60)
+      → Put out filled line after next → Turn input before start after (left - 1) there next (at + 60)
   unfolding recordsOf fold outputs
   turn-next there line after next more e short put =
       let rest = recordLines (left - 1) there (drop (at + 60) input) in
@@ -181,36 +180,29 @@ module _ {input before : List ℕ} {total : ℕ} {start : Replay} {out : List �
         bytes = omega (arith, turn .bytes, ap length z, length-append line rest, put .behind);
       }
 
-  -- what a batch answers and leaves in its buffer, where nothing more is done
-  pub batch-returned : (first there : Replay) → start ≡ first → there ≡ here → total ≡ recordsIn input before → Still here (recordsOf left (drop at input))
-      → (_≡_ {A = Written} (record { replay = there; filled = filled }) (batched input before first))
-      × ((out ≡ atFront (batchLines input before first) before) × (filled ≤ length before))
-  unfolding batched batchLines
-  batch-returned first there s t e still =
-      let n = recordsIn input before in
-      let lines = recordLines n first input in
-      let replay : there ≡ afterRecords n first input = t ∙ sym (turn .replay ∙ still .0) ∙ (λ j. afterRecords (e j) (s j) input) in
-      let same : recordLines total start input ≡ lines = λ j. recordLines (e j) (s j) input in
-      let bytes : filled ≡ length lines = omega (arith, turn .bytes, ap length (still .1), ap length same) in (
-        λ j. record { replay = replay j; filled = bytes j },
-        (
-          sym (turn .lines ∙ ap (sets out filled) (still .1)) ∙ ap (sets before 0) same ∙ sets-eq lines before 0 (omega (arith, lines-length n first input))
-              ∙ ap (λ (m : ℕ). lines ++ drop m before) (zero-add (length lines)),
-          omega (arith, bytes, lines-length n first input),
-        ),
+  -- what a batch leaves, and what it has written, where nothing more is done
+  pub batch-returned : (first there : Replay) → start ≡ first → there ≡ here → Still here (recordsOf left (drop at input))
+      → (there ≡ afterInput first input) × Put before 0 (inputLines first input) out filled
+  batch-returned first there s t still =
+      let lines : inputLines start input ≡ inputLines first input = λ j. inputLines (s j) input in (
+        t ∙ sym (turn .replay ∙ still .0) ∙ (λ j. afterInput (s j) input),
+        record {
+          bytes = sym (turn .lines ∙ ap (sets out filled) (still .1)) ∙ ap (sets before 0) lines;
+          behind = omega (arith, turn .bytes, ap length (still .1), ap length lines);
+        },
       )
 
-module _ {input before : List ℕ} {total : ℕ} {start : Replay} {out : List ℕ} {left : ℕ} (s : State) (remap : Bool) (map : Map) (number : ℕ) {filled at : ℕ}
-    (turn : Turn input before total start out left (carried s remap map number false) filled at) (more : 0 < left) {after : List ℕ} {next : ℕ} where
+module _ {input before : List ℕ} {start : Replay} {out : List ℕ} {left : ℕ} (s : State) (remap : Bool) (map : Map) (number : ℕ) {filled at : ℕ}
+    (turn : Turn input before start out left (carried s remap map number false) filled at) (more : 0 < left) {after : List ℕ} {next : ℕ} where
   pub turn-formed : (step : Step) {x : State} {held : Bool} {t : Taken} {k : ℕ} → held ≡ canHold s → t ≡ stepTaken held s step
       → x ≡ ruledBy held s step .state → readStep (recordAt input at) ≡ Formed step → k ≡ (number + 1) % 2 ^ 64 → Put out filled (answerLine (t .answer)) after next
-      → Turn input before total start after (left - 1) (carried x (remap || t .remap) map k false) next (at + 60)
+      → Turn input before start after (left - 1) (carried x (remap || t .remap) map k false) next (at + 60)
   turn-formed step {x} {held} {t} {k} h e f r i put =
       turn-next turn (carried x (remap || t .remap) map k false) (answerLine (t .answer)) after next more
       (formed s step h e f remap map number (recordAt input at) r i) (answer-length (t .answer)) put
 
   pub turn-broken : readStep (recordAt input at) ≡ Nothing → Put out filled (brokenLine number) after next
-      → Turn input before total start after (left - 1) (carried s remap map number true) next (at + 60)
+      → Turn input before start after (left - 1) (carried s remap map number true) next (at + 60)
   unfolding afterRecord recordLine
   turn-broken r put =
       let here = carried s remap map number false in
@@ -218,8 +210,7 @@ module _ {input before : List ℕ} {total : ℕ} {start : Replay} {out : List �
       (broken-length number) put
 
 pub batch-stopped : (input before : List ℕ) (start : Replay) → start .stopped ≡ true
-    → (_≡_ {A = Written} (record { replay = start; filled = 0 }) (batched input before start))
-    × ((before ≡ atFront (batchLines input before start) before) × (0 ≤ length before))
+    → (start ≡ afterInput start input) × Put before 0 (inputLines start input) before 0
 batch-stopped input before start h =
-    let n = recordsIn input before in
-    batch-returned (turn-start input before n start refl) start start refl refl refl (stopped-still start h (recordsOf n input))
+    let still = stopped-still start h (recordsOf (length input / 60) input) in
+    (sym (still .0), record { bytes = ap (sets before 0) (sym (still .1)); behind = omega (arith, ap length (still .1)) })

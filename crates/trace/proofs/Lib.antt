@@ -5,3 +5,5 @@ pub mod Batching
 pub mod Endings
 pub mod Cutting
 pub mod Replaying
+pub mod Sessions
+pub mod Wholeness

@@ -158,6 +158,14 @@ broken-length number = omega (arith, numbered-length (bytesOf "refused 8 record 
 
 -- ---- a whole buffer
 
+pub nothing-written : (room : ℕ) (buffer : List ℕ)
+    → (0 ≡ writtenLength room [] buffer) × ((buffer ≡ writtenFront room [] buffer) × (0 ≤ length buffer))
+nothing-written room buffer = go (ltb (length buffer) room)
+  where
+    go : (b : Bool) → (_≡_ {A = ℕ} 0 (cond b 0 0)) × ((buffer ≡ cond b buffer buffer) × (0 ≤ length buffer))
+    go true = (refl, (refl, omega arith))
+    go false = (refl, (refl, omega arith))
+
 module _ (room : ℕ) (text buffer : List ℕ) where
   pub not-written : length buffer < room → (0 ≡ writtenLength room text buffer) × ((buffer ≡ writtenFront room text buffer) × (0 ≤ length buffer))
   not-written h = (rw (lt-ltb (length buffer) room h), (rw (lt-ltb (length buffer) room h), omega arith))

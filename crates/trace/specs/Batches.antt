@@ -1,5 +1,5 @@
 -- Replaying a trace: each record steps the hart that the one before left, up to a broken record.
-use Prim.Native.Nat.{ℕ, zero, suc, _+_, _/_, _%_, _^_, min}
+use Prim.Native.Nat.{ℕ, zero, suc, _+_, _/_, _%_, _^_}
 use mathlib.Core.Bool.{Bool, true, false, cond}
 use mathlib.Core.List.{List, [], _∷_}
 use lib.ListN.{length, take, drop}
@@ -12,7 +12,6 @@ use Rattle.map.specs.declared.Map.{Map}
 use Rattle.hart.specs.declared.Stepped.{Stepped}
 use Rattle.hart.specs.Steps.{mapFor, hartWith, stepped}
 use Rattle.trace.specs.declared.Replay.{Replay}
-use Rattle.trace.specs.declared.Written.{Written}
 use Rattle.trace.specs.Records.{readStep}
 use Rattle.trace.specs.Answers.{answerLine, brokenLine}
 
@@ -50,18 +49,12 @@ afterRecords n r text = fold afterRecord r (recordsOf n text)
 abbrev pub recordLines : ℕ → Replay → List ℕ → List ℕ
 recordLines n r text = outputs afterRecord recordLine r (recordsOf n text)
 
--- the whole records of an input, as far as a buffer has 64 bytes for the line of each
-abbrev pub recordsIn : List ℕ → List ℕ → ℕ
-recordsIn input out = min (length input / 60) (length out / 64)
+-- the whole records of an input: what they leave, and their lines
+abbrev pub afterInput : Replay → List ℕ → Replay
+afterInput r input = afterRecords (length input / 60) r input
 
-unfoldable pub batchLines : List ℕ → List ℕ → Replay → List ℕ
-batchLines input out start = recordLines (recordsIn input out) start input
-
-unfoldable pub batched : List ℕ → List ℕ → Replay → Written
-batched input out start = record {
-  replay = afterRecords (recordsIn input out) start input;
-  filled = length (batchLines input out start);
-}
+abbrev pub inputLines : Replay → List ℕ → List ℕ
+inputLines r input = recordLines (length input / 60) r input
 
 -- how a batch carries its replay: the state of the hart, and whether a step asked for a fresh map in place of the one given
 abbrev pub carried : State → Bool → Map → ℕ → Bool → Replay

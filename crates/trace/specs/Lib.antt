@@ -4,3 +4,5 @@ pub mod Buffers
 pub mod Answers
 pub mod Batches
 pub mod Endings
+pub mod Sessions
+pub mod InPieces

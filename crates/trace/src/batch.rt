@@ -7,17 +7,11 @@ use hart::Hart;
 use map::Map;
 use steps::Decoded;
 ghost use mathlib.Core.Path.{_≡_};
-ghost use Prim.Native.Nat.{_≤_, min};
+ghost use Prim.Native.Nat.{_/_, _≤_};
 ghost use lib.ListN.{length};
 ghost use Rattle.state.specs.Words.{stateOf};
-ghost use Rattle.trace.specs.Buffers.{atFront};
-ghost use Rattle.trace.specs.Batches.{carried, batched, batchLines};
-
-fn least(a: usize, b: usize) -> usize
-    ensures { λ r. ⌜ r ≡ min a b ⌝ }
-{
-    if a < b { a } else { b }
-}
+ghost use Rattle.trace.specs.Buffers.{Put};
+ghost use Rattle.trace.specs.Batches.{carried, afterInput, inputLines};
 
 // The replay that a batch leaves. Its map is compiled here, once, where a step asked for it.
 fn handed_back(words: [u64; 41], remap: bool, map: Map, number: u64, stopped: bool) -> Replay
@@ -38,12 +32,12 @@ fn handed_back(words: [u64; 41], remap: bool, map: Map, number: u64, stopped: bo
     left
 }
 
-// Steps through the whole records of the input, as far as the buffer has 64 bytes for the line of each, and writes their lines to its front.
+// Steps through the whole records of the input and writes their lines to the front of the buffer, which has 64 bytes for each.
 // The steps are taken on the words of the hart, and no map is read.
-pub fn batch(input: &[u8], out: &mut [u8], start: Replay) -> Written
-    ensures { λ r. ⌜ r ≡ batched (now (input .entry)) (now (out .entry)) start ⌝ }
-    ensures { λ _. ⌜ now (out .exit) ≡ atFront (batchLines (now (input .entry)) (now (out .entry)) start) (now (out .entry)) ⌝ }
-    ensures { λ r. ⌜ r .filled ≤ length (now (out .entry)) ⌝ }
+pub(crate) fn batch(input: &[u8], out: &mut [u8], start: Replay) -> Written
+    requires { ⌜ length (now input) / 60 ≤ length (now out) / 64 ⌝ }
+    ensures { λ r. ⌜ r .replay ≡ afterInput start (now (input .entry)) ⌝ }
+    ensures { λ r. ⌜ Put (now (out .entry)) 0 (inputLines start (now (input .entry))) (now (out .exit)) (r .filled) ⌝ }
 {
     if start.stopped {
         return Written {
@@ -51,7 +45,7 @@ pub fn batch(input: &[u8], out: &mut [u8], start: Replay) -> Written
             filled: 0,
         };
     }
-    let mut left = least(input.len() / 60, out.len() / 64);
+    let mut left = input.len() / 60;
     let hart = start.hart;
     let state = hart.state;
     let mut held = state::can_hold(state);

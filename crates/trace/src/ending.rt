@@ -11,7 +11,7 @@ ghost use mathlib.Core.Path.{_≡_};
 ghost use Prim.Native.Nat.{_+_, _≤_};
 ghost use lib.ListN.{length};
 ghost use Rattle.map.specs.Lookup.{rangesIn};
-ghost use Rattle.trace.specs.Buffers.{Put, writtenFront, writtenLength};
+ghost use Rattle.trace.specs.Buffers.{Put};
 ghost use Rattle.trace.specs.Endings.{stateText, ownerText, rangeLine, rangeLines, ending, leftOver};
 
 fn put_state(hart: Hart, out: &mut [u8]) -> usize
@@ -64,21 +64,17 @@ fn put_ranges(map: Map, out: &mut [u8], place: usize) -> usize
 }
 
 // The bytes short of a record, of those that came last.
-pub fn left_over(stopped: bool, came: usize) -> usize
+pub(crate) fn left_over(stopped: bool, came: usize) -> u64
     ensures { λ r. ⌜ r ≡ leftOver stopped came ⌝ }
 {
-    if stopped { 0 } else { came % 60 }
+    if stopped { 0 } else { (came % 60) as u64 }
 }
 
-// Writes the saved text of the end state, the ranges of the map and the bytes left over to the front of a buffer of at least 4,096 bytes.
-pub fn write_ending(replay: Replay, left: u64, out: &mut [u8]) -> usize
-    ensures { λ r. ⌜ r ≡ writtenLength 4096 (ending replay left) (now (out .entry)) ⌝ }
-    ensures { λ _. ⌜ now (out .exit) ≡ writtenFront 4096 (ending replay left) (now (out .entry)) ⌝ }
-    ensures { λ r. ⌜ r ≤ length (now (out .entry)) ⌝ }
+// The saved text of the end state, the ranges of the map and the bytes left over.
+pub(crate) fn put_ending(replay: Replay, left: u64, out: &mut [u8]) -> usize
+    requires { ⌜ 4096 ≤ length (now out) ⌝ }
+    ensures { λ r. ⌜ Put (now (out .entry)) 0 (ending replay left) (now (out .exit)) r ⌝ }
 {
-    if out.len() < 4096 {
-        return 0;
-    }
     let hart = replay.hart;
     let map = replay.map;
     let mut next = put_state(hart, out);

@@ -2,13 +2,14 @@
 use hart::Hart;
 use map::Map;
 
-pub mod batch;
-pub mod ending;
-pub mod reader;
-pub mod writer;
+mod batch;
+mod ending;
+mod pieces;
+mod reader;
+mod writer;
 
 // The three words of a record.
-pub enum Record {
+pub(crate) enum Record {
     Words(u64, u64, u64),
     Broken,
 }
@@ -22,7 +23,22 @@ pub struct Replay {
 }
 
 // What a batch of records leaves, and how many bytes of lines it wrote.
-pub struct Written {
+pub(crate) struct Written {
+    pub(crate) replay: Replay,
+    pub(crate) filled: usize,
+}
+
+// What goes on from one piece of a trace to the next: the replay, the bytes of the last piece that were short of a record, whether there may be
+// more input, and the refusal of the text it started from, or 0.
+pub struct Session {
     pub replay: Replay,
+    pub left: u64,
+    pub more: bool,
+    pub refusal: u64,
+}
+
+// What feeding a piece leaves, and how many bytes of lines it wrote.
+pub struct Fed {
+    pub session: Session,
     pub filled: usize,
 }

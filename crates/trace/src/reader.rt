@@ -5,7 +5,7 @@ ghost use mathlib.Core.Path.{_≡_};
 ghost use Rattle.trace.specs.Records.{readRecord, ignoresFirst, ignoresSecond, unusedAreZero, recordStep, readStep};
 
 // Reads a record: the words of its three lines, if all of them are in the form.
-pub fn read_record(text: &[u8]) -> Record
+fn read_record(text: &[u8]) -> Record
     ensures { λ r. ⌜ r ≡ readRecord (now (text .entry)) ⌝ }
 {
     if text.len() != 60 {
@@ -40,7 +40,7 @@ fn unused_are_zero(step: u64, a: u64, b: u64) -> bool
 }
 
 // The step that the words of a record name, if its unused arguments are 0.
-pub fn record_step(record: Record) -> Decoded
+fn record_step(record: Record) -> Decoded
     ensures { λ r. ⌜ r ≡ recordStep «record» ⌝ }
 {
     match record {
@@ -56,7 +56,7 @@ pub fn record_step(record: Record) -> Decoded
 }
 
 // The step of a record's text.
-pub fn read_step(text: &[u8]) -> Decoded
+pub(crate) fn read_step(text: &[u8]) -> Decoded
     ensures { λ r. ⌜ r ≡ readStep (now (text .entry)) ⌝ }
 {
     record_step(read_record(text))

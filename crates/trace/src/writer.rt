@@ -2,12 +2,11 @@
 use steps::Answer;
 use steps::Level;
 use steps::Trap;
-ghost use mathlib.Core.Path.{_≡_};
 ghost use mathlib.Core.List.{_++_};
 ghost use Prim.Native.Nat.{_+_, _≤_};
 ghost use lib.ListN.{length};
 ghost use Rattle.lines.specs.Lines.{hexDigits};
-ghost use Rattle.trace.specs.Buffers.{Put, writtenFront, writtenLength};
+ghost use Rattle.trace.specs.Buffers.{Put};
 ghost use Rattle.trace.specs.Answers.{decimal, numberedLine, trapText, levelText, answerLine, brokenLine};
 ghost use Rattle.steps.specs.declared.Answer.the-variants.{DoneValue, DoneFlag, Trapped};
 
@@ -134,16 +133,4 @@ pub(crate) fn put_broken(number: u64, out: &mut [u8], place: usize) -> usize
     ensures { λ r. ⌜ Put (now (out .entry)) place (brokenLine number) (now (out .exit)) r ⌝ }
 {
     put_numbered(b"refused 8 record ", number, out, place)
-}
-
-// Writes the line of an answer to the front of a buffer of at least 64 bytes.
-pub fn write_answer(answer: Answer, out: &mut [u8]) -> usize
-    ensures { λ r. ⌜ r ≡ writtenLength 64 (answerLine answer) (now (out .entry)) ⌝ }
-    ensures { λ _. ⌜ now (out .exit) ≡ writtenFront 64 (answerLine answer) (now (out .entry)) ⌝ }
-    ensures { λ r. ⌜ r ≤ length (now (out .entry)) ⌝ }
-{
-    if out.len() < 64 {
-        return 0;
-    }
-    put_answer(answer, out, 0)
 }

@@ -1,7 +1,7 @@
 -- A step of the registers alone is refused exactly when the table says, and a refusal changes nothing. Assumes nothing.
 use Prim.Native.Nat.{ℕ}
 use mathlib.Core.Path.{_≡_, refl}
-use mathlib.Core.Bool.{Bool, true, false, cond}
+use mathlib.Core.Bool.{Bool, true, false, not, cond}
 use lib.Dec.{leb}
 use Rattle.bits.specs.Mask.{within}
 use Rattle.bits.proofs.Conjunction.{by-test}
@@ -9,7 +9,8 @@ use Rattle.steps.specs.declared.Level.{Level}
 use Rattle.steps.specs.declared.Level.the-variants.{Supervisor, Machine}
 use Rattle.steps.specs.declared.Event.{Event}
 use Rattle.steps.specs.declared.Event.the-variants.{Raise, Lines, TakeInterrupt, Mret, Sret, Wfi, Ecall, Ebreak, Advance, Elapsed}
-use Rattle.steps.specs.Number.{refusalOf}
+use Rattle.steps.specs.declared.Answer.{Answer}
+use Rattle.steps.specs.declared.Answer.the-variants.{Done, DoneValue, DoneFlag, Granted, Trapped, Refused}
 use Rattle.registers.specs.declared.Registers.{Registers}
 use Rattle.registers.specs.Masks.{linesMask}
 use Rattle.registers.specs.Hold.{aligned}
@@ -21,43 +22,62 @@ use Rattle.trap.specs.Enter.{raised, raiseStep}
 use Rattle.trap.specs.Interrupt.{linesStep, takeable, firstOf, priority, takenBy, interruptTaken}
 use Rattle.trap.specs.Return.{mayReturn, returnStep, mayWait, waited}
 use Rattle.trap.specs.Time.{advanced, elapsed}
-use Rattle.trap.specs.Events.{eventStep, eventRefusal}
+use Rattle.trap.specs.Events.{eventStep}
 
--- the answer has this refusal's number, and where that is one the registers are what went in
-abbrev pub Quiet : Registers → ℕ → Outcome → Type 0
-Quiet r n o = (refusalOf (o .answer) ≡ n) × ((n ≡ 0 → ⊥) → o .registers ≡ r)
+-- the answer is a refusal
+abbrev pub refuses : Answer → Bool
+refuses Done = false
+refuses (DoneValue old) = false
+refuses (DoneFlag flag) = false
+refuses Granted = false
+refuses (Trapped trap level) = false
+refuses (Refused number) = true
 
--- nothing is asked of a step that is not refused
-pub never : {A : Type 0} → (_≡_ {A = ℕ} 0 0 → ⊥) → A
-never z = absurd (z refl)
+-- raise cause above 7; lines outside their mask
+abbrev refused : Event → Bool
+refused (Raise cause tval) = not (leb cause 7)
+refused (Lines lines) = not (within linesMask lines)
+refused TakeInterrupt = false
+refused Mret = false
+refused Sret = false
+refused Wfi = false
+refused Ecall = false
+refused Ebreak = false
+refused (Advance target) = false
+refused (Elapsed cycles retired) = false
+
+-- where the table refuses, the answer is refusal 2 and the registers are what went in; else it is no refusal
+abbrev pub Quiet : Registers → Bool → Outcome → Type 0
+Quiet r true o = o ≡ refusedStep r 2
+Quiet r false o = refuses (o .answer) ≡ false
 
 module _ (r : Registers) where
-  pub raised-quiet : (cause tval : ℕ) → Quiet r 0 (raised r cause tval)
+  pub raised-quiet : (cause tval : ℕ) → Quiet r false (raised r cause tval)
   unfolding raised
-  raised-quiet cause tval = (refl, never)
+  raised-quiet cause tval = refl
 
   -- the table and the step go by one test
-  unless-refused : (b : Bool) (o : Outcome) → Quiet r 0 o → Quiet r (cond b 0 2) (cond b o (refusedStep r 2))
+  unless-refused : (b : Bool) (o : Outcome) → Quiet r false o → Quiet r (not b) (cond b o (refusedStep r 2))
   unless-refused true o q = q
-  unless-refused false o q = (refl, λ z. refl)
+  unless-refused false o q = refl
 
-  taken-quiet : (choice : Choice) → Quiet r 0 (takenBy r choice)
-  taken-quiet (Take i) = (refl, never)
-  taken-quiet Nothing = (refl, never)
+  taken-quiet : (choice : Choice) → Quiet r false (takenBy r choice)
+  taken-quiet (Take i) = refl
+  taken-quiet Nothing = refl
 
-  return-quiet : (level : Level) → Quiet r 0 (returnStep level r)
+  return-quiet : (level : Level) → Quiet r false (returnStep level r)
   unfolding returnStep
-  return-quiet level = by-test (Quiet r 0) (mayReturn level r) _ _ (λ t. (refl, never)) (λ t. raised-quiet 2 0)
+  return-quiet level = by-test (Quiet r false) (mayReturn level r) _ _ (λ t. refl) (λ t. raised-quiet 2 0)
 
-  pub event-quiet : (event : Event) → Quiet r (eventRefusal event) (eventStep r event)
+  pub event-quiet : (event : Event) → Quiet r (refused event) (eventStep r event)
   unfolding raiseStep linesStep interruptTaken waited advanced elapsed
   event-quiet (Raise cause tval) = unless-refused (leb cause 7) _ (raised-quiet cause tval)
-  event-quiet (Lines lines) = unless-refused (within linesMask lines) _ (refl, never)
+  event-quiet (Lines lines) = unless-refused (within linesMask lines) _ refl
   event-quiet TakeInterrupt = taken-quiet (firstOf (takeable r) priority)
   event-quiet Mret = return-quiet Machine
   event-quiet Sret = return-quiet Supervisor
-  event-quiet Wfi = by-test (Quiet r 0) (mayWait r) _ _ (λ t. (refl, never)) (λ t. raised-quiet 2 0)
+  event-quiet Wfi = by-test (Quiet r false) (mayWait r) _ _ (λ t. refl) (λ t. raised-quiet 2 0)
   event-quiet Ecall = raised-quiet _ 0
   event-quiet Ebreak = raised-quiet 3 0
-  event-quiet (Advance target) = by-test (Quiet r 0) (aligned target) _ _ (λ t. (refl, never)) (λ t. raised-quiet 0 target)
-  event-quiet (Elapsed cycles retired) = (refl, never)
+  event-quiet (Advance target) = by-test (Quiet r false) (aligned target) _ _ (λ t. refl) (λ t. raised-quiet 0 target)
+  event-quiet (Elapsed cycles retired) = refl

@@ -4,7 +4,8 @@ use mathlib.Core.Bool.{true, false}
 use lib.ListN.{length}
 use borrow.Author.Needs.{needs}
 use borrow.Author.Tests.{not-true, not-false}
-use Rattle.capi.specs.Calls.{decisionWords, queryable}
+use Rattle.steps.specs.Number.{decisionNumbers}
+use Rattle.capi.specs.Calls.{queryable}
 use Rattle.capi.proofs.QueryLaws.{test, lengths, result-is, answer-is}
 use Rattle.capi.proofs.tegrwyllt_query.Statement.{statement}
 use Rattle.capi.proofs.tegrwyllt_query.Tie as tie
@@ -47,7 +48,7 @@ returns-2 c =
     let a = k .before .before .before .before .before .before .args in
     let e = called k in (
       result-is (a .hart .now) (a .map .now) (a .mode) (a .kind) (a .answer .now) e,
-      c .before .before .copy .ensures ∙ d .decision-words .ensures ∙ ap decisionWords (d .before .ask .ensures)
+      c .before .before .copy .ensures ∙ d .decision-words .ensures ∙ ap decisionNumbers (d .before .ask .ensures)
           ∙ answer-is (a .hart .now) (a .map .now) (a .mode) (a .kind) (a .answer .now) (a .address) (a .size) e,
     )
 

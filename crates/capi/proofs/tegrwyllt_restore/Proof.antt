@@ -32,7 +32,7 @@ returns-2 c =
     let r = n .before in
     let e = r .before .before in
     let a = e .before .before .before .before .before .args in
-    restore-refused (a .text .now) (a .hart .now) (a .map .now) (fitted e) (words e) _ _ (r .restore .ensures) (n .refusal-of .ensures) (c .if2 .taken)
+    restore-refused (a .text .now) (a .hart .now) (a .map .now) (fitted e) (words e) _ _ (r .restore .ensures .0) (n .refusal-of .ensures) (c .if2 .taken)
 
 store-map-requires : tie.Need-store-map-requires
 store-map-requires c κs =
@@ -49,7 +49,7 @@ returns-3 c =
     let r = n .before in
     let e = r .before .before in
     let a = e .before .before .before .before .before .args in
-    restore-done (a .text .now) (a .hart .now) (a .map .now) (fitted e) (words e) _ _ (r .restore .ensures) (n .refusal-of .ensures) (i .if2 .left)
+    restore-done (a .text .now) (a .hart .now) (a .map .now) (fitted e) (words e) _ _ (r .restore .ensures .0) (n .refusal-of .ensures) (i .if2 .left)
     (s .store .ensures) (m .store-map .ensures)
 
 pub tegrwyllt-restore-spec : {M : Type 1} → statement M

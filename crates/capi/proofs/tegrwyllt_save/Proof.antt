@@ -15,7 +15,7 @@ returns-2 c =
     let l = s .before .before in
     let a = l .before .before .before .before .args in (
       saved-number (a .hart .now) (a .text .now) (l .before .if1 .left) (l .load .ensures) (s .save .ensures .0) (c .refusal-of .ensures),
-      saved-bytes (a .hart .now) (a .text .now) (l .before .if1 .left) (l .load .ensures) (s .save .ensures .1),
+      saved-bytes (a .hart .now) (a .text .now) (l .before .if1 .left) (l .load .ensures) (s .save .ensures .1 .1),
     )
 
 pub tegrwyllt-save-spec : {M : Type 1} → statement M

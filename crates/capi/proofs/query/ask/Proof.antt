@@ -11,7 +11,7 @@ returns c =
     let b = l .before .before .before in
     let a = b .args in
     answered (a .hart .now) (a .map .now) (b .pre .0) (a .mode) (a .kind) (a .address) (a .size) (l .load .ensures) (f .find .ensures) (o .map-with .ensures)
-    (c .before .before .mode-of .ensures) (c .before .access-of .ensures) (c .query .ensures)
+    (c .before .before .mode-of .ensures) (c .before .access-of .ensures) (c .query .ensures .0)
 
 pub ask-spec : {M : Type 1} → statement M
 ask-spec =

@@ -28,7 +28,7 @@ returns : tie.Need-returns
 returns c =
     let i = c .before in
     let a = i .before .before .before .before .before .before .before .before .before .before .args in
-    c .query .ensures
+    c .query .ensures .0
     ∙ ap (λ (l : Mapped). queryAnswer (l .hart) (l .map) (a .mode) (a .access) (a .address) (a .size))
     (left (i .before) false (not-true _ (i .if1 .taken)) (a .map) refl)
 
@@ -37,7 +37,7 @@ returns-2 c =
     let k = c .before in
     let i = k .before .before in
     let a = i .before .before .before .before .before .before .before .before .before .before .args in
-    c .query2 .ensures
+    c .query2 .ensures .0
     ∙ ap (λ (l : Mapped). queryAnswer (l .hart) (l .map) (a .mode) (a .access) (a .address) (a .size))
     (left (i .before) true (not-false _ (i .if1 .left)) (k .map-for .result) (k .map-for .ensures))
 

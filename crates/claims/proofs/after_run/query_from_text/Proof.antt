@@ -12,7 +12,7 @@ known : (c : tie.After-restore) → c .restore .result ≡ readBack (c .before .
 known c =
     let z = c .before .before .before in
     let a = z .before .before .before .args in
-    c .restore .ensures ∙ ap (λ (m : Mapped). restored (m .hart) (m .map) (a .text .now)) (z .reset .ensures)
+    c .restore .ensures .0 ∙ ap (λ (m : Mapped). restored (m .hart) (m .map) (a .text .now)) (z .reset .ensures)
 
 returns : tie.Need-returns
 returns c =

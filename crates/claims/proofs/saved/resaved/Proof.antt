@@ -25,7 +25,7 @@ returns-2 c =
     let below : (i : ℕ) → getD ws i 0 < 2 ^ 64 = λ i. (let f : Fits w64 (getD ws i 0) = search needs in f .fits) in
     let t : Typed (a .hart .state) = record { arrays = y .typed .ensures; words = rw (w .to-words .ensures .0) at below } in
     resaved-by (a .hart) (a .map) _ t (sym (e .before .can-hold .ensures) ∙ not-false _ (e .if1 .left)) refl
-    (s .save .ensures .1) (c .restore .ensures)
+    (s .save .ensures .1 .1) (c .restore .ensures .0)
 
 pub resaved-spec : {M : Type 1} → statement M
 resaved-spec =

@@ -5,6 +5,7 @@ use Rattle.steps.specs.declared.Answer.the-variants.{Done, Refused}
 use Rattle.map.specs.declared.Map.{Map}
 use Rattle.hart.specs.Steps.{mapFor, hartWith, handedBack}
 use Rattle.hart.specs.Saved.{restored}
+use Rattle.hart.proofs.Numbered.{numbered}
 use Rattle.hart.proofs.SavedLaws.{refused-form, judged-state}
 use borrow.Author.Needs.{needs}
 use Rattle.hart.proofs.Hart.restore.Statement.{statement}
@@ -14,7 +15,7 @@ returns : tie.Need-returns
 returns c =
     let d = c .before .before in
     let a = d .before .before .args in
-    refused-form (a .self) (a .map) (a .text .now) (d .read .ensures) (not-true _ (c .if1 .taken))
+    numbered (refused-form (a .self) (a .map) (a .text .now) (d .read .ensures) (not-true _ (c .if1 .taken)))
 
 -- what is known once the state of the text's words has been judged, with its map
 judged : (c : tie.After-can-hold) (held : Bool) (m : Map) → c .can-hold .result ≡ held → m ≡ mapFor (c .before .of-words .result .pmp)
@@ -29,10 +30,10 @@ judged c held m h own =
     (sym (c .can-hold .ensures) ∙ h) own
 
 returns-2 : tie.Need-returns-2
-returns-2 c = judged (c .before) false (mapFor (c .before .before .of-words .result .pmp)) (not-true _ (c .if2 .taken)) refl
+returns-2 c = numbered (judged (c .before) false (mapFor (c .before .before .of-words .result .pmp)) (not-true _ (c .if2 .taken)) refl)
 
 returns-3 : tie.Need-returns-3
-returns-3 c = let f = c .before .before in judged (f .before) true (c .map-for .result) (not-false _ (f .if2 .left)) (c .map-for .ensures)
+returns-3 c = let f = c .before .before in numbered (judged (f .before) true (c .map-for .result) (not-false _ (f .if2 .left)) (c .map-for .ensures))
 
 pub restore-spec : {M : Type 1} → statement M
 restore-spec =

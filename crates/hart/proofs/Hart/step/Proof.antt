@@ -1,4 +1,5 @@
 use mathlib.Core.Path.{_∙_}
+use Rattle.hart.proofs.Numbered.{numbered}
 use Rattle.hart.proofs.StepLaws.{map-stays, map-anew}
 use borrow.Author.Needs.{needs}
 use Rattle.hart.proofs.Hart.step.Statement.{statement}
@@ -11,7 +12,8 @@ returns c =
     let w = g .before .before in
     let k = w .before in
     let a = k .before .before .args in
-    map-stays (a .self) (a .map) (a .step) (k .can-hold .ensures) (w .to-words .result) (w .to-words .ensures .1) (g .step .ensures .0) (f .of-words .ensures ∙ g .step .ensures .1) (c .if1 .taken)
+    numbered
+    (map-stays (a .self) (a .map) (a .step) (k .can-hold .ensures) (w .to-words .result) (w .to-words .ensures .1) (g .step .ensures .0) (f .of-words .ensures ∙ g .step .ensures .1) (c .if1 .taken))
 
 returns-2 : tie.Need-returns-2
 returns-2 c =
@@ -21,7 +23,8 @@ returns-2 c =
     let w = g .before .before in
     let k = w .before in
     let a = k .before .before .args in
-    map-anew (a .self) (a .map) (a .step) (k .can-hold .ensures) (w .to-words .result) (w .to-words .ensures .1) (g .step .ensures .0) (f .of-words .ensures ∙ g .step .ensures .1) (i .if1 .left) (c .map-for .ensures)
+    numbered
+    (map-anew (a .self) (a .map) (a .step) (k .can-hold .ensures) (w .to-words .result) (w .to-words .ensures .1) (g .step .ensures .0) (f .of-words .ensures ∙ g .step .ensures .1) (i .if1 .left) (c .map-for .ensures))
 
 pub step-spec : {M : Type 1} → statement M
 step-spec =

@@ -13,18 +13,18 @@ use Rattle.trace.proofs.batch.batch.Tie as tie
 
 abbrev Inv-loop : tie.InvT-loop
 Inv-loop input out₀ left₀ held₀ words₀ map remap₀ number₀ filled₀ at₀ out left held words remap number filled at =
-    Turn input out₀ left₀ (carried (stateOf words₀) remap₀ map number₀ false) out left (carried (stateOf words) remap map number false) filled at
+    Turn input out₀ (carried (stateOf words₀) remap₀ map number₀ false) out left (carried (stateOf words) remap map number false) filled at
     × (held ≡ canHold (stateOf words))
 
 abbrev μ-loop : tie.MeasureT-loop
 μ-loop input out₀ left₀ held₀ words₀ map remap₀ number₀ filled₀ at₀ out left held words remap number filled at = left
 
--- where the records were counted, and where the call began, from where the words were made
-abbrev counted : tie.After-to-words Inv-loop μ-loop → tie.After-least Inv-loop μ-loop
-counted w = w .before .before .before .before
-
+-- where the call began, from where the words were made
 abbrev first : tie.After-to-words Inv-loop μ-loop → tie.Start Inv-loop μ-loop
-first w = counted w .before .before .before .before
+first w = w .before .before .before .before .before .before .before
+
+unstopped : (w : tie.After-to-words Inv-loop μ-loop) → first w .args .start .stopped ≡ false
+unstopped w = w .before .before .before .before .if1 .left
 
 returns : tie.Need-returns Inv-loop μ-loop
 returns c =
@@ -36,8 +36,7 @@ loop-holds c =
     let w = c .before in
     let a = first w .args in
     let s = a .start in (
-      turn-start (a .input .now) (a .out .now) (counted w .least .result) (carried (stateOf (w .to-words .result)) false (s .map) (s .number) false)
-          (counted w .least .ensures),
+      turn-start (a .input .now) (a .out .now) (carried (stateOf (w .to-words .result)) false (s .map) (s .number) false) (first w .pre),
       w .before .can-hold .ensures ∙ ap canHold (sym (w .to-words .ensures .1)),
     )
 
@@ -50,12 +49,11 @@ returns-2 c =
     let o = l .loop in
     let w = l .before .before in
     let a = first w .args in
-    let n = counted w in
     let turn = turn-broken (stateOf (o .words)) (o .remap) (a .start .map) (o .number) (o .inv .0) (r .before .before .loop-test .taken)
     (read-here (a .input .now) (o .at) (r .read-step .ensures) ∙ t .enum-told .given .1) (b .put-broken .ensures) in
     batch-returned turn (a .start) (c .handed-back .result)
-    (begun (a .start) (w .to-words .result) (n .before .if1 .left) (w .to-words .ensures .1))
-    (c .handed-back .ensures) (n .least .ensures) (stopped-still _ refl _)
+    (begun (a .start) (w .to-words .result) (unstopped w) (w .to-words .ensures .1))
+    (c .handed-back .ensures) (stopped-still _ refl _)
 
 loop-again : tie.Need-loop-again Inv-loop μ-loop
 loop-again c =
@@ -80,10 +78,9 @@ returns-3 c =
     let o = l .loop in
     let w = l .before .before in
     let a = first w .args in
-    let n = counted w in
     batch-returned (o .inv .0) (a .start) (c .handed-back2 .result)
-    (begun (a .start) (w .to-words .result) (n .before .if1 .left) (w .to-words .ensures .1))
-    (c .handed-back2 .ensures) (n .least .ensures) (none-still (o .left) _ (drop (o .at) (a .input .now)) (c .before .loop-test .left))
+    (begun (a .start) (w .to-words .result) (unstopped w) (w .to-words .ensures .1))
+    (c .handed-back2 .ensures) (none-still (o .left) _ (drop (o .at) (a .input .now)) (c .before .loop-test .left))
 
 pub batch-spec : {M : Type 1} → statement M
 batch-spec =
@@ -92,7 +89,6 @@ batch-spec =
     Inv-loop
     μ-loop
     returns
-    (λ c κs. search needs)
     (λ c κs. search needs)
     (λ c κs. search needs)
     loop-holds

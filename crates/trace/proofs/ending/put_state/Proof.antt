@@ -10,7 +10,7 @@ returns c =
     let h = s .before .before .before in
     let a = h .before .before .args in
     state-put (a .hart) (a .out .now) (s .save .last .1 .0) (h .before .before .pre)
-    (sym (h .can-hold .ensures) ∙ s .before .before .if1 .taken) (s .save .ensures .1)
+    (sym (h .can-hold .ensures) ∙ s .before .before .if1 .taken) (s .save .ensures .1 .1)
 
 returns-2 : tie.Need-returns-2
 returns-2 c =

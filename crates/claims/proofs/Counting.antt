@@ -1,0 +1,173 @@
+-- Elapsed counts; every other step but a reset and a write to a counter leaves it. Assumes nothing.
+use Prim.Native.Nat.{ℕ}
+use mathlib.Core.Path.{_≡_, refl, sym, ap, _∙_}
+use mathlib.Core.Bool.{Bool, true, false, cond, not, _&&_, true≢false, and-true}
+use mathlib.Core.List.{List, [], _∷_}
+use lib.Dec.{eqb, leb, ltb}
+use Rattle.bits.specs.Mask.{within}
+use Rattle.bits.proofs.Conjunction.{by-test}
+use Rattle.pmp.specs.declared.Access.{Access}
+use Rattle.pmp.specs.declared.Access.the-variants.{Fetch, Load, Store}
+use Rattle.pmp.specs.declared.Decision.{Decision}
+use Rattle.pmp.specs.Rule.{checked}
+use Rattle.steps.specs.declared.Level.{Level}
+use Rattle.steps.specs.declared.Level.the-variants.{Supervisor, Machine}
+use Rattle.steps.specs.declared.Trap.{Trap}
+use Rattle.steps.specs.declared.Trap.the-variants.{Exception, Interrupt}
+use Rattle.steps.specs.declared.Operation.{Operation}
+use Rattle.steps.specs.declared.Event.{Event}
+use Rattle.steps.specs.declared.Event.the-variants.{Raise, Lines, TakeInterrupt, Mret, Sret, Wfi, Ecall, Ebreak, Advance, Elapsed}
+use Rattle.steps.specs.declared.Step.{Step}
+use Rattle.steps.specs.declared.Step.the-variants.{Reset, Csr, Access as AccessStep, Event as EventStep}
+use Rattle.steps.specs.declared.Answer.the-variants.{Done}
+use Rattle.registers.specs.declared.Counters.{Counters}
+use Rattle.registers.specs.declared.Registers.{Registers}
+use Rattle.registers.specs.Masks.{linesMask}
+use Rattle.registers.specs.Hold.{aligned}
+use Rattle.registers.specs.Effective.{effectiveMode}
+use Rattle.protection.specs.Read.{isPmp}
+use Rattle.protection.proofs.SameLaws.{same-pmp-refl}
+use Rattle.state.specs.declared.State.{State}
+use Rattle.state.specs.Hold.{canHold}
+use Rattle.csr.specs.Permit.{attemptsWrite, illegal}
+use Rattle.csr.specs.Store.{registersWritten}
+use Rattle.csr.specs.Operate.{registersOperated}
+use Rattle.trap.specs.declared.Outcome.{Outcome}
+use Rattle.trap.specs.Enter.{destination, entered, raised, raiseStep}
+use Rattle.trap.specs.Interrupt.{linesStep, takeable, firstOf, priority, takenBy, interruptTaken}
+use Rattle.trap.specs.Return.{returned, mayReturn, returnStep, mayWait, waited}
+use Rattle.trap.specs.Time.{advanced, elapsed}
+use Rattle.trap.specs.Events.{eventStep}
+use Rattle.map.specs.declared.Map.{Map}
+use Rattle.engine.specs.Effects.{Effect, refused, csrStep, accessDecided, accessAt, accessStep, eventEffect, stepRule}
+use Rattle.hart.specs.declared.Hart.{Hart}
+use Rattle.hart.specs.declared.Stepped.{Stepped}
+use Rattle.hart.specs.Steps.{hartWith, handedBack, stepped}
+use Rattle.hart.proofs.StepLaws.{step-parts}
+use Rattle.claims.specs.Consequences.{isElapsed, mayChange, OthersLeave, elapsedBy}
+
+-- ---- the steps of the registers alone leave all counters, but elapsed
+
+abbrev Leaves : Registers → Outcome → Type 0
+Leaves r o = o .registers .counters ≡ r .counters
+
+entered-leaves : (level : Level) (trap : Trap) (tval : ℕ) (r : Registers) → entered level trap tval r .counters ≡ r .counters
+unfolding entered
+entered-leaves Supervisor trap tval r = refl
+entered-leaves Machine trap tval r = refl
+
+module _ (r : Registers) where
+  raised-leaves : (cause tval : ℕ) → Leaves r (raised r cause tval)
+  unfolding raised
+  raised-leaves cause tval = entered-leaves (destination r (Exception cause)) (Exception cause) tval r
+
+  taken-leaves : (test : ℕ → Bool) (l : List ℕ) → Leaves r (takenBy r (firstOf test l))
+  taken-leaves test [] = refl
+  taken-leaves test (i ∷ l) =
+      by-test (λ c. Leaves r (takenBy r c)) (test i) _ _ (λ t. entered-leaves (destination r (Interrupt i)) (Interrupt i) 0 r) (λ t. taken-leaves test l)
+
+  return-leaves : (level : Level) → Leaves r (returnStep level r)
+  unfolding returnStep returned
+  return-leaves level = by-test (Leaves r) (mayReturn level r) _ _ (λ t. refl) (λ t. raised-leaves 2 0)
+
+  event-leaves : (event : Event) → isElapsed event ≡ false → Leaves r (eventStep r event)
+  unfolding raiseStep linesStep interruptTaken waited advanced
+  event-leaves (Raise cause tval) e = by-test (Leaves r) (leb cause 7) _ _ (λ t. raised-leaves cause tval) (λ t. refl)
+  event-leaves (Lines lines) e = by-test (Leaves r) (within linesMask lines) _ _ (λ t. refl) (λ t. refl)
+  event-leaves TakeInterrupt e = taken-leaves (takeable r) priority
+  event-leaves Mret e = return-leaves Machine
+  event-leaves Sret e = return-leaves Supervisor
+  event-leaves Wfi e = by-test (Leaves r) (mayWait r) _ _ (λ t. refl) (λ t. raised-leaves 2 0)
+  event-leaves Ecall e = raised-leaves _ 0
+  event-leaves Ebreak e = raised-leaves 3 0
+  event-leaves (Advance target) e = by-test (Leaves r) (aligned target) _ _ (λ t. refl) (λ t. raised-leaves 0 target)
+  event-leaves (Elapsed cycles retired) e = absurd (true≢false e)
+
+-- ---- a write leaves a counter that it does not name
+
+cond-same : {A : Type 0} (b : Bool) (x : A) → cond b x x ≡ x
+cond-same true x = refl
+cond-same false x = refl
+
+through : {A B : Type 0} (f : A → B) (b : Bool) (x y : A) → f (cond b x y) ≡ cond b (f x) (f y)
+through f true x y = refl
+through f false x y = refl
+
+-- a write to another number leaves the counter
+abbrev WriteLeaves : ℕ → (Counters → ℕ) → Type 0
+WriteLeaves number counter =
+    (r : Registers) (n value : ℕ) → eqb n number ≡ false → counter (registersWritten r n value .counters) ≡ counter (r .counters)
+
+mcycle-written : WriteLeaves 0xB00 (λ c. c .mcycle)
+unfolding registersWritten
+mcycle-written r n value e = simp (through (λ (x : Registers). x .counters .mcycle), e, cond-same)
+
+minstret-written : WriteLeaves 0xB02 (λ c. c .minstret)
+unfolding registersWritten
+minstret-written r n value e = simp (through (λ (x : Registers). x .counters .minstret), e, cond-same)
+
+-- ---- every step but those that may change the counter
+
+module _ (number : ℕ) (counter : Counters → ℕ) (written : WriteLeaves number counter) (s : State) where
+  abbrev Left : Effect → Type 0
+  Left e = counter (e .state .registers .counters) ≡ counter (s .registers .counters)
+
+  operated-leaves : (op : Operation) (n operand old : ℕ) → illegal (s .registers) op n ≡ false
+      → (attemptsWrite op && (eqb n number && not (illegal (s .registers) op n))) ≡ false
+      → counter (registersOperated (s .registers) op n operand old .counters) ≡ counter (s .registers .counters)
+  operated-leaves op n operand old legal e =
+      by-test (λ (x : Registers). counter (x .counters) ≡ counter (s .registers .counters)) (attemptsWrite op) _ (s .registers)
+      (λ t. written (s .registers) n _ (sym (and-true (eqb n number)) ∙ rw (t, legal) at e))
+      (λ t. refl)
+
+  csr-leaves : (op : Operation) (n operand : ℕ) → (attemptsWrite op && (eqb n number && not (illegal (s .registers) op n))) ≡ false
+      → Left (csrStep s op n operand)
+  unfolding csrStep
+  csr-leaves op n operand e =
+      by-test Left (ltb 4095 n) _ _ (λ t. refl)
+      (λ t.
+      by-test Left (illegal (s .registers) op n) _ _ (λ u. ap counter (raised-leaves (s .registers) 2 0))
+      (λ u. by-test Left (isPmp n) _ _ (λ v. refl) (λ v. operated-leaves op n operand _ u e)))
+
+  decided-leaves : (address : ℕ) (d : Decision) → Left (accessDecided s address d)
+  decided-leaves address Decision.Granted = refl
+  decided-leaves address (Decision.Fault cause) = ap counter (raised-leaves (s .registers) cause address)
+  decided-leaves address (Decision.Refused n) = refl
+
+  at-leaves : (access : Access) (address size : ℕ) → Left (accessAt s access address size)
+  unfolding accessAt
+  at-leaves access address size =
+      decided-leaves address (checked (s .pmp .cfgs) (s .pmp .addrs) (effectiveMode (s .registers) access) access address size)
+
+  access-leaves : (access : Access) (address size : ℕ) → Left (accessStep s access address size)
+  access-leaves Fetch address size = at-leaves Fetch (s .registers .pc) 4
+  access-leaves Load address size = at-leaves Load address size
+  access-leaves Store address size = at-leaves Store address size
+
+  -- refusal 3 leaves all
+  held-leaves : (e : Effect) → (canHold s ≡ true → Left e) → Left (cond (canHold s) e (refused s 3))
+  held-leaves e p = by-test Left (canHold s) e (refused s 3) p (λ t. refl)
+
+  rule-leaves : (step : Step) → mayChange number s step ≡ false → Left (stepRule s step)
+  unfolding stepRule
+  rule-leaves Reset e = absurd (true≢false e)
+  rule-leaves (Csr op n operand) e = held-leaves (csrStep s op n operand) (λ t. csr-leaves op n operand (rw t at e))
+  rule-leaves (AccessStep access address size) e = held-leaves (accessStep s access address size) (λ t. access-leaves access address size)
+  rule-leaves (EventStep event) e = held-leaves (eventEffect s event) (λ t. ap counter (event-leaves (s .registers) event (rw t at e)))
+
+others-leave : (number : ℕ) (counter : Counters → ℕ) → WriteLeaves number counter → OthersLeave number counter
+others-leave number counter written h map step e =
+    ap (λ (x : Stepped). counter (x .hart .state .registers .counters)) (step-parts h map step) ∙ rule-leaves number counter written (h .state) step e
+
+pub mcycle-left : OthersLeave 0xB00 (λ c. c .mcycle)
+mcycle-left = others-leave 0xB00 (λ c. c .mcycle) mcycle-written
+
+pub minstret-left : OthersLeave 0xB02 (λ c. c .minstret)
+minstret-left = others-leave 0xB02 (λ c. c .minstret) minstret-written
+
+-- ---- elapsed
+
+pub elapsed-counts : (h : Hart) (map : Map) (cycles retired : ℕ) → canHold (h .state) ≡ true
+    → stepped h map (EventStep (Elapsed cycles retired)) ≡ handedBack (hartWith (elapsedBy h cycles retired)) map Done
+unfolding stepped stepRule elapsed
+elapsed-counts h map cycles retired p = rw (p, same-pmp-refl (h .state .pmp))

@@ -1,0 +1,282 @@
+-- Sentences of 01 that rest on more than one definition, each as a law in 01's own numbers: registers of one value, the counters, accesses,
+-- the saved text, the map.
+use Prim.Native.Nat.{ℕ, _+_, _*_, _/_, _%_, _^_, _≤_, _<_}
+use mathlib.Core.Path.{_≡_}
+use mathlib.Core.Bool.{Bool, true, false, cond, not, _&&_, _||_}
+use mathlib.Core.List.{List, [], _∷_, _++_}
+use mathlib.Core.Logic.{_⊎_}
+use lib.Dec.{eqb, leb, ltb}
+use lib.ListN.{length, getD, take, drop}
+use Rattle.bits.specs.Lists.{Words}
+use Rattle.bits.specs.Mask.{testBit}
+use Rattle.lines.specs.Lines.{bytesOf, hexDigits}
+use Rattle.pmp.specs.declared.Mode.{Mode}
+use Rattle.pmp.specs.declared.Mode.the-variants.{User, Supervisor, Machine}
+use Rattle.pmp.specs.declared.Access.{Access}
+use Rattle.pmp.specs.declared.Access.the-variants.{Fetch, Load, Store}
+use Rattle.pmp.specs.declared.Decision.{Decision}
+use Rattle.pmp.specs.Number.{modeOf}
+use Rattle.pmp.specs.Entry.{matches}
+use Rattle.pmp.specs.Rule.{ownerDecides, byteRule, isSize, ownerOf}
+use Rattle.steps.specs.declared.Trap.the-variants.{Exception}
+use Rattle.steps.specs.declared.Operation.{Operation}
+use Rattle.steps.specs.declared.Operation.the-variants.{Read}
+use Rattle.steps.specs.declared.Event.{Event}
+use Rattle.steps.specs.declared.Event.the-variants.{Raise, Lines, TakeInterrupt, Mret, Sret, Wfi, Ecall, Ebreak, Advance, Elapsed}
+use Rattle.steps.specs.declared.Step.{Step}
+use Rattle.steps.specs.declared.Step.the-variants.{Reset, Csr, Access as AccessStep, Event as EventStep}
+use Rattle.steps.specs.declared.Answer.the-variants.{Done, DoneValue, Granted, Trapped}
+use Rattle.registers.specs.declared.Counters.{Counters}
+use Rattle.registers.specs.declared.Registers.{Registers}
+use Rattle.registers.specs.Effective.{effectiveMode}
+use Rattle.registers.specs.Update.{levelOf, withPc, withCounters}
+use Rattle.protection.specs.declared.Pmp.{Pmp}
+use Rattle.protection.specs.Configs.{packed}
+use Rattle.protection.specs.Read.{pmpRead}
+use Rattle.state.specs.declared.State.{State}
+use Rattle.state.specs.Hold.{canHold, resetState}
+use Rattle.csr.specs.Permit.{between, attemptsWrite, illegal}
+use Rattle.csr.specs.Show.{registerRead}
+use Rattle.trap.specs.Enter.{destination, raised}
+use Rattle.map.specs.declared.Range.{Range}
+use Rattle.map.specs.declared.Map.{Map}
+use Rattle.map.specs.declared.Found.the-variants.{At, Nothing}
+use Rattle.map.specs.Lookup.{findRange, rangesIn}
+use Rattle.map.specs.Ranges.{IsMap}
+use Rattle.map.specs.Compiled.{compiled}
+use Rattle.text.specs.Text.{textOf, readAs, readText}
+use Rattle.engine.specs.Effects.{withRegisters}
+use Rattle.hart.specs.declared.Hart.{Hart}
+use Rattle.hart.specs.declared.Stepped.{Stepped}
+use Rattle.hart.specs.Steps.{hartWith, handedBack, stepped}
+use Rattle.hart.specs.Queries.{queryAnswer}
+use Rattle.hart.specs.Saved.{textFor}
+use Rattle.claims.specs.SavedLines.{keyed, keyedText, resetLines, joined}
+
+-- ---- registers of one value
+
+-- a number in one of these ranges, first and last included
+abbrev pub listed : List (ℕ × ℕ) → ℕ → Bool
+listed [] n = false
+listed (r ∷ rs) n = between (r .0) (r .1) n || listed rs n
+
+-- F11 to F15, 323 to 33F, B03 to B1F, C03 to C1F, 30A, 10A, 180 read 0
+abbrev pub zeroNumbers : List (ℕ × ℕ)
+zeroNumbers = (0xF11, 0xF15) ∷ (0x323, 0x33F) ∷ (0xB03, 0xB1F) ∷ (0xC03, 0xC1F) ∷ (0x30A, 0x30A) ∷ (0x10A, 0x10A) ∷ (0x180, 0x180) ∷ []
+
+abbrev pub readsZero : ℕ → Bool
+readsZero n = listed zeroNumbers n
+
+-- a write to 301, 323 to 33F, B03 to B1F, 30A, 10A or 180 changes nothing
+abbrev pub fixedNumbers : List (ℕ × ℕ)
+fixedNumbers = (0x301, 0x301) ∷ (0x323, 0x33F) ∷ (0xB03, 0xB1F) ∷ (0x30A, 0x30A) ∷ (0x10A, 0x10A) ∷ (0x180, 0x180) ∷ []
+
+abbrev pub ignoresWrites : ℕ → Bool
+ignoresWrites n = listed fixedNumbers n
+
+-- a hart whose pc moved on by 4, wrapping, and nothing else; the map as given; the old value
+abbrev pub movedOn : Hart → Map → ℕ → Stepped
+movedOn h map old =
+    handedBack (hartWith (withRegisters (h .state) (withPc (h .state .registers) ((h .state .registers .pc + 4) % 2 ^ 64)))) map (DoneValue old)
+
+-- ---- the counters
+
+abbrev pub isElapsed : Event → Bool
+isElapsed (Raise cause tval) = false
+isElapsed (Lines lines) = false
+isElapsed TakeInterrupt = false
+isElapsed Mret = false
+isElapsed Sret = false
+isElapsed Wfi = false
+isElapsed Ecall = false
+isElapsed Ebreak = false
+isElapsed (Advance target) = false
+isElapsed (Elapsed cycles retired) = true
+
+-- what may change the counter of this number: a reset, and, of a state that a hart can hold, elapsed and a write attempt to it that is not illegal
+abbrev pub mayChange : ℕ → State → Step → Bool
+mayChange counter s Reset = true
+mayChange counter s (Csr op number operand) =
+    canHold s && (attemptsWrite op && (eqb number counter && not (illegal (s .registers) op number)))
+mayChange counter s (AccessStep access address size) = false
+mayChange counter s (EventStep event) = canHold s && isElapsed event
+
+-- every other step leaves it: refused, trapping and illegal ones, fetches, loads and stores too
+abbrev pub OthersLeave : ℕ → (Counters → ℕ) → Type 0
+OthersLeave number counter =
+    (h : Hart) (map : Map) (step : Step) → mayChange number (h .state) step ≡ false
+    → counter (stepped h map step .hart .state .registers .counters) ≡ counter (h .state .registers .counters)
+
+-- mcycle and minstret after elapsed, and nothing else changed
+abbrev pub elapsedBy : Hart → ℕ → ℕ → State
+elapsedBy h cycles retired =
+    let c = h .state .registers .counters in
+    withRegisters (h .state)
+    (withCounters (h .state .registers) (c .mcountinhibit)
+    (cond (testBit (c .mcountinhibit) 0) (c .mcycle) ((c .mcycle + cycles) % 2 ^ 64))
+    (cond (testBit (c .mcountinhibit) 2) (c .minstret) ((c .minstret + retired) % 2 ^ 64)))
+
+-- ---- accesses
+
+-- the byte rule on all bytes of an access at once, in its effective mode
+abbrev pub ruleOn : Hart → Access → ℕ → ℕ → Decision
+ruleOn h access address size =
+    byteRule (h .state .pmp .cfgs) (h .state .pmp .addrs) (effectiveMode (h .state .registers) access) access address size
+
+-- the bit of an entry's byte for an access: R is bit 0, W bit 1, X bit 2
+abbrev pub bitFor : Access → ℕ
+bitFor Fetch = 2
+bitFor Load = 0
+bitFor Store = 1
+
+-- faults: fetch 1, load 5, store 7
+abbrev pub causeFor : Access → ℕ
+causeFor Fetch = 1
+causeFor Load = 5
+causeFor Store = 7
+
+abbrev pub isMachine : Mode → Bool
+isMachine User = false
+isMachine Supervisor = false
+isMachine Machine = true
+
+-- granted where this holds, and else the access's fault
+abbrev pub grantedIf : Bool → Access → Decision
+grantedIf granted access = cond granted Decision.Granted (Decision.Fault (causeFor access))
+
+-- the mode of a load or store: MPP, bits 12:11 of mstatus, if MPRV, bit 17, is 1
+abbrev pub loadMode : Registers → Mode
+loadMode r = modeOf (cond (testBit (r .mstatus) 17) (r .mstatus / 2 ^ 11 % 4) (r .mode))
+
+-- a step that traps with this cause and trap value, and does no more than the entry
+pub record TrapsWith (h : Hart) (map : Map) (cause tval : ℕ) (after : Stepped) : Type 0 where
+  pub entry :
+      after
+      ≡ handedBack (hartWith (withRegisters (h .state) (raised (h .state .registers) cause tval .registers))) map (raised (h .state .registers) cause tval .answer)
+  pub answer : after .answer ≡ Trapped (Exception cause) (destination (h .state .registers) (Exception cause))
+  pub recorded :
+      (levelOf (destination (h .state .registers) (Exception cause)) (after .hart .state .registers) .cause ≡ cause)
+      × (levelOf (destination (h .state .registers) (Exception cause)) (after .hart .state .registers) .tval ≡ tval)
+
+-- a step that is one access: one decision on all its bytes, and where that is a fault this cause and the first byte's address
+abbrev pub OneAccess : Hart → Map → Access → ℕ → ℕ → ℕ → Stepped → Type 0
+OneAccess h map access cause address size after =
+    ((ruleOn h access address size ≡ Decision.Granted) × (after ≡ handedBack h map Granted))
+    ⊎ ((ruleOn h access address size ≡ Decision.Fault cause) × TrapsWith h map cause address after)
+
+-- ---- owners
+
+-- an owner is the lowest of the sixteen entries that matches the byte, or none, which is 16
+pub record LowestOwner (cfgs addrs : List ℕ) (byte owner : ℕ) : Type 0 where
+  pub bound : owner ≤ 16
+  pub matching : owner < 16 → matches cfgs addrs owner byte ≡ true
+  pub lowest : (i : ℕ) → i < owner → matches cfgs addrs i byte ≡ false
+
+-- ---- queries
+
+-- no range of the list holds the byte
+abbrev pub NoneHolds : List Range → ℕ → Type 0
+NoneHolds [] byte = Unit {0}
+NoneHolds (r ∷ rs) byte = (r .first ≤ byte → byte ≤ r .last → ⊥) × NoneHolds rs byte
+
+-- the range is the list's lowest-numbered one that holds the byte
+pub record LowestHolding (rs : List Range) (byte : ℕ) (r : Range) : Type 0 where
+  pub before : List Range
+  pub after : List Range
+  pub place : rs ≡ before ++ r ∷ after
+  pub none : NoneHolds before byte
+  pub holds : (r .first ≤ byte) × (byte ≤ r .last)
+
+-- the sizes of an access
+abbrev pub Sized : ℕ → Type 0
+Sized size = (size ≡ 1) ⊎ ((size ≡ 2) ⊎ ((size ≡ 4) ⊎ (size ≡ 8)))
+
+-- ---- all of them
+
+pub record Consequences : Type 0 where
+  -- "F11 to F15, 323 to 33F, B03 to B1F, C03 to C1F, 30A, 10A, 180 read 0": any CSR step on one that is not illegal; and in M a read never is
+  pub reads-zero : (h : Hart) (map : Map) (op : Operation) (number operand : ℕ) → canHold (h .state) ≡ true
+      → illegal (h .state .registers) op number ≡ false → readsZero number ≡ true → stepped h map (Csr op number operand) ≡ movedOn h map 0
+  pub readable : (r : Registers) (number : ℕ) → r .mode ≡ 3 → readsZero number ≡ true → illegal r Read number ≡ false
+  -- "misa (301) reads 0x8000000000141101"
+  pub reads-misa : (h : Hart) (map : Map) (op : Operation) (operand : ℕ) → canHold (h .state) ≡ true
+      → illegal (h .state .registers) op 0x301 ≡ false → stepped h map (Csr op 0x301 operand) ≡ movedOn h map 0x8000000000141101
+  -- "3A0 and 3A2 are pmpcfg0 and pmpcfg2, entry 0 in the lowest byte"
+  pub reads-configs : (p : Pmp) → (pmpRead p 0x3A0 ≡ packed (take 8 (p .cfgs))) × (pmpRead p 0x3A2 ≡ packed (drop 8 (p .cfgs)))
+  pub lowest-first : (b c d e f g i j : ℕ)
+      → packed (b ∷ c ∷ d ∷ e ∷ f ∷ g ∷ i ∷ j ∷ [])
+      ≡ b + 2 ^ 8 * c + 2 ^ 16 * d + 2 ^ 24 * e + 2 ^ 32 * f + 2 ^ 40 * g + 2 ^ 48 * i + 2 ^ 56 * j
+  pub packed-bytes : packed (1 ∷ 2 ∷ 3 ∷ 4 ∷ 5 ∷ 6 ∷ 7 ∷ 8 ∷ []) ≡ 0x0807060504030201
+  pub config-steps : (h : Hart) (map : Map) (operand : ℕ) → canHold (h .state) ≡ true → h .state .registers .mode ≡ 3
+      → (stepped h map (Csr Read 0x3A0 operand) ≡ movedOn h map (packed (take 8 (h .state .pmp .cfgs))))
+      × (stepped h map (Csr Read 0x3A2 operand) ≡ movedOn h map (packed (drop 8 (h .state .pmp .cfgs))))
+  -- "A write to 301, 323 to 33F, B03 to B1F, 30A, 10A or 180 is done and changes nothing"; it is illegal only below bits 9:8, or of 180 in S with TVM=1
+  pub ignores-writes : (h : Hart) (map : Map) (op : Operation) (number operand : ℕ) → canHold (h .state) ≡ true
+      → illegal (h .state .registers) op number ≡ false → ignoresWrites number ≡ true
+      → stepped h map (Csr op number operand) ≡ movedOn h map (registerRead (h .state .registers) number)
+  pub writable : (r : Registers) (op : Operation) (number : ℕ) → ignoresWrites number ≡ true
+      → illegal r op number ≡ (ltb (r .mode) (number / 256 % 4) || (eqb number 0x180 && (eqb (r .mode) 1 && testBit (r .mstatus) 20)))
+  -- "Elapsed adds a to mcycle unless inhibit bit 0, b to minstret unless bit 2; both counters wrap at 2^64. No other step counts."
+  pub elapsed-counts : (h : Hart) (map : Map) (cycles retired : ℕ) → canHold (h .state) ≡ true
+      → stepped h map (EventStep (Elapsed cycles retired)) ≡ handedBack (hartWith (elapsedBy h cycles retired)) map Done
+  pub mcycle-left : OthersLeave 0xB00 (λ c. c .mcycle)
+  pub minstret-left : OthersLeave 0xB02 (λ c. c .minstret)
+  -- "A misaligned load or store is one access (house). A granted access changes nothing." "Faults: fetch 1, load 5, store 7, tval the first byte's address."
+  pub load : (h : Hart) (map : Map) (address size : ℕ) → canHold (h .state) ≡ true → isSize size ≡ true
+      → OneAccess h map Load 5 address size (stepped h map (AccessStep Load address size))
+  pub store : (h : Hart) (map : Map) (address size : ℕ) → canHold (h .state) ≡ true → isSize size ≡ true
+      → OneAccess h map Store 7 address size (stepped h map (AccessStep Store address size))
+  -- "fetch of 4 bytes at pc", "arguments not named are ignored"
+  pub fetch : (h : Hart) (map : Map) (a b : ℕ) → canHold (h .state) ≡ true
+      → OneAccess h map Fetch 1 (h .state .registers .pc) 4 (stepped h map (AccessStep Fetch a b))
+  -- "Any byte at or above 2^56: access fault in every mode (house). Else the lowest entry matching any byte decides: it must match all bytes, or fault,
+  -- even in M with L=0": bytes of two owners fault, bytes of one are decided by it
+  pub beyond : (cfgs addrs : List ℕ) (mode : Mode) (access : Access) (address size : ℕ) → 0 < size → 2 ^ 56 < address + size
+      → byteRule cfgs addrs mode access address size ≡ Decision.Fault (causeFor access)
+  pub two-owners : (cfgs addrs : List ℕ) (mode : Mode) (access : Access) (address size b d : ℕ) → address + size ≤ 2 ^ 56
+      → address ≤ b → b < address + size → address ≤ d → d < address + size → (ownerOf cfgs addrs b ≡ ownerOf cfgs addrs d → ⊥)
+      → byteRule cfgs addrs mode access address size ≡ Decision.Fault (causeFor access)
+  pub one-owner : (cfgs addrs : List ℕ) (mode : Mode) (access : Access) (address size owner : ℕ) → 0 < size → address + size ≤ 2 ^ 56
+      → ((byte : ℕ) → address ≤ byte → byte < address + size → ownerOf cfgs addrs byte ≡ owner)
+      → byteRule cfgs addrs mode access address size ≡ ownerDecides cfgs mode access owner
+  -- "Then unlocked in M is granted; otherwise its R, W or X bit.": L is bit 7
+  pub entry-decides : (cfgs : List ℕ) (mode : Mode) (access : Access) (owner : ℕ) → owner < 16 → getD cfgs owner 0 < 256
+      → ownerDecides cfgs mode access owner
+      ≡ grantedIf ((isMachine mode && not (testBit (getD cfgs owner 0) 7)) || testBit (getD cfgs owner 0) (bitFor access)) access
+  -- "No matching entry: granted in M, fault in S and U. Faults: fetch 1, load 5, store 7"
+  pub none-decides : (cfgs : List ℕ) (mode : Mode) (access : Access) → ownerDecides cfgs mode access 16 ≡ grantedIf (isMachine mode) access
+  -- "Effective mode: a fetch uses mode; a load or store uses MPP if MPRV=1, else mode."
+  pub effective-mode : (r : Registers)
+      → (effectiveMode r Fetch ≡ modeOf (r .mode)) × (effectiveMode r Load ≡ loadMode r) × (effectiveMode r Store ≡ loadMode r)
+  -- "modes U=0, S=1, M=3"
+  pub mode-numbers : (modeOf 0 ≡ User) × (modeOf 1 ≡ Supervisor) × (modeOf 3 ≡ Machine)
+  -- "owner being the lowest entry matching each byte or none"
+  pub owner : (cfgs addrs : List ℕ) (byte : ℕ) → LowestOwner cfgs addrs byte (ownerOf cfgs addrs byte)
+  -- "41 lines, each key, `=`, 16 lower-case hexadecimal digits, line feed; 1,027 bytes. Keys in this order"
+  pub lines : (s : State) → (textFor (hartWith s) ≡ keyedText (keyed s)) × (length (keyed s) ≡ 41) × (length (textFor (hartWith s)) ≡ 1027)
+  pub digits : hexDigits 16 0x0123456789ABCDEF ≡ bytesOf "0123456789abcdef"
+  -- "The reset state is that text with every value 0 except mode 3, pc 1000, mstatus a00000000."
+  pub reset-text : textFor (hartWith resetState) ≡ joined resetLines
+  -- reading and writing a text are inverse: 41 words below 2^64 are read from their text, what is read as words is their text, and what is refused is no text
+  pub text-read : (words : List ℕ) → Words 41 words → readText (textOf words) ≡ readAs words
+  pub read-text : (text words : List ℕ) → readText text ≡ readAs words → (text ≡ textOf words) × Words 41 words
+  pub unread : (text words : List ℕ) → readText text .ok ≡ false → Words 41 words → text ≡ textOf words → ⊥
+  -- "The map lists ranges (first byte, last byte, owner), owner being the lowest entry matching each byte or none. In order, no gap, no overlap,
+  -- from 0 to 2^56-1, neighbours never with one owner": the list in the compiled map, whatever bytes and addresses the sixteen entries have
+  pub map-laid : (cfgs addrs : List ℕ) → IsMap cfgs addrs (take (compiled cfgs addrs .count) (compiled cfgs addrs .ranges))
+  pub map-count : (cfgs addrs : List ℕ) → compiled cfgs addrs .count ≤ 33
+  -- "it reads the lowest-numbered range that holds the first byte": what is found is it, and where nothing is found no range holds the byte
+  pub range-found : (rs : List Range) (byte : ℕ) (r : Range) → findRange rs byte ≡ At r → LowestHolding rs byte r
+  pub range-missing : (rs : List Range) (byte : ℕ) → findRange rs byte ≡ Nothing → NoneHolds rs byte
+  -- "a byte at or above 2^56 faults before the map is read"
+  pub query-beyond : (h : Hart) (map : Map) (mode : Mode) (access : Access) (address size : ℕ) → canHold (h .state) ≡ true
+      → Sized size → 2 ^ 56 < address + size → queryAnswer h map mode access address size ≡ Decision.Fault (causeFor access)
+  -- refusal 1: "a size other than 1, 2, 4, 8"
+  pub sizes : (size : ℕ) → isSize size ≡ true → Sized size
+  -- "it faults unless that range holds all bytes, and else the owner decides as above"
+  pub query-decides : (h : Hart) (map : Map) (mode : Mode) (access : Access) (address size : ℕ) (r : Range) → canHold (h .state) ≡ true
+      → Sized size → address + size ≤ 2 ^ 56 → findRange (rangesIn map) address ≡ At r → r .owner ≤ 16
+      → queryAnswer h map mode access address size
+      ≡ cond (leb (address + size) (r .last + 1)) (ownerDecides (h .state .pmp .cfgs) mode access (r .owner)) (Decision.Fault (causeFor access))
+  -- "A count above 33 is read as 33."
+  pub count-read : (m : Map) → rangesIn m ≡ take (cond (leb (m .count) 33) (m .count) 33) (m .ranges)

@@ -1,0 +1,81 @@
+-- A claim over whole traces: full pieces and a shorter last one write what the trace at once gives, from either start.
+use Prim.Native.Nat.{ℕ, _%_, _<_}
+use mathlib.Core.Path.{_≡_}
+use mathlib.Core.Bool.{true, false, cond}
+use mathlib.Core.List.{List, [], _∷_, _++_}
+use lib.ListN.{length}
+use Rattle.steps.specs.declared.Answer.the-variants.{Done, Refused}
+use Rattle.map.specs.declared.Map.{Map}
+use Rattle.hart.specs.declared.Hart.{Hart}
+use Rattle.hart.specs.declared.Stepped.{Stepped}
+use Rattle.hart.specs.Steps.{resetMapped, handedBack}
+use Rattle.hart.specs.Saved.{restored}
+use Rattle.trace.specs.declared.Replay.{Replay}
+use Rattle.trace.specs.declared.Session.{Session}
+use Rattle.trace.specs.Answers.{answerLine}
+use Rattle.trace.specs.Batches.{afterInput, inputLines}
+use Rattle.trace.specs.Endings.{ending}
+use Rattle.trace.specs.Sessions.{resetSession, textSession, afterPiece, sessionEnding, afterPieces, allWritten}
+
+-- a trace at once: the lines of its whole records, and the ending with the count of the bytes left over, 0 after a broken record
+abbrev pub replayed : Replay → List ℕ → List ℕ
+replayed r trace = inputLines r trace ++ ending (afterInput r trace) (cond (afterInput r trace .stopped) 0 (length trace % 60))
+
+-- full pieces and what comes behind them, joined
+abbrev pub joined : List (List ℕ) → List ℕ → List ℕ
+joined [] last = last
+joined (piece ∷ pieces) last = piece ++ joined pieces last
+
+abbrev pub AllFull : List (List ℕ) → Type 0
+AllFull [] = Unit {0}
+AllFull (piece ∷ pieces) = (length piece ≡ 61440) × AllFull pieces
+
+-- a hart and its map before the first record, and the session that has read nothing
+abbrev pub unread : Hart → Map → Replay
+unread h map = record { hart = h; map = map; number = 0; stopped = false }
+
+abbrev pub begun : Hart → Map → Session
+begun h map = record { replay = unread h map; left = 0; more = true; refusal = 0 }
+
+-- a text read back
+abbrev pub fromText : List ℕ → Stepped
+fromText text = restored (resetMapped .hart) (resetMapped .map) text
+
+pub record InPieces : Type 0 where
+  -- full pieces and a shorter last one, from any session that has not ended
+  pub whole : (start : Session) (full : List (List ℕ)) (last : List ℕ) → start .more ≡ true → start .refusal ≡ 0 → AllFull full → length last < 61440
+      → allWritten start (full ++ last ∷ []) ≡ replayed (start .replay) (joined full last)
+  -- after the end further pieces write nothing
+  pub ended : (start : Session) (pieces rest : List (List ℕ)) → afterPieces start pieces .more ≡ false → allWritten start (pieces ++ rest) ≡ allWritten start pieces
+  -- before it there is no ending
+  pub unended : (start : Session) (pieces : List (List ℕ)) → afterPieces start pieces .more ≡ true → sessionEnding (afterPieces start pieces) ≡ []
+  -- a refused text's line is all that is written
+  pub refused : (start : Session) (pieces : List (List ℕ)) → start .more ≡ false → (start .refusal ≡ 0 → ⊥)
+      → allWritten start pieces ≡ answerLine (Refused (start .refusal))
+  -- a piece leaves what its whole records leave
+  pub read : (s : Session) (piece : List ℕ) → s .more ≡ true → afterPiece s piece .replay ≡ afterInput (s .replay) piece
+  -- after a broken record no more is read
+  pub broken : (s : Session) (piece : List ℕ) → s .more ≡ true → afterPiece s piece .replay .stopped ≡ true → afterPiece s piece .more ≡ false
+  -- a full piece without one goes on
+  pub unbroken : (s : Session) (piece : List ℕ) → s .more ≡ true → afterPiece s piece .replay .stopped ≡ false → length piece ≡ 61440
+      → afterPiece s piece .more ≡ true
+  -- a piece of any other length, as a shorter one, is the last
+  pub last : (s : Session) (piece : List ℕ) → s .more ≡ true → (length piece ≡ 61440 → ⊥) → afterPiece s piece .more ≡ false
+  -- a session that has ended stays as it is
+  pub stays : (s : Session) (piece : List ℕ) → s .more ≡ false → afterPiece s piece ≡ s
+  -- the one start is the reset state with its map, and nothing read
+  pub from-reset : resetSession ≡ begun (resetMapped .hart) (resetMapped .map)
+  -- the other is the hart and map of a text that is taken, and nothing read
+  pub from-text : (text : List ℕ) (h : Hart) (map : Map) → fromText text ≡ handedBack h map Done → textSession text ≡ begun h map
+  -- a refused text ends its session at once, with the number of the refusal
+  pub refused-text : (text : List ℕ) (n : ℕ) → fromText text .answer ≡ Refused n → (n ≡ 0 → ⊥)
+      → (textSession text .more ≡ false) × (textSession text .refusal ≡ n)
+  -- so a trace from reset writes what it gives at once from the reset state
+  pub reset-whole : (full : List (List ℕ)) (last : List ℕ) → AllFull full → length last < 61440
+      → allWritten resetSession (full ++ last ∷ []) ≡ replayed (unread (resetMapped .hart) (resetMapped .map)) (joined full last)
+  -- and one from a text that is taken, what it gives at once from the text's state
+  pub text-whole : (text : List ℕ) (h : Hart) (map : Map) (full : List (List ℕ)) (last : List ℕ) → fromText text ≡ handedBack h map Done → AllFull full
+      → length last < 61440 → allWritten (textSession text) (full ++ last ∷ []) ≡ replayed (unread h map) (joined full last)
+  -- while behind a refused text, whatever comes, the refusal's line is all
+  pub text-refused : (text : List ℕ) (n : ℕ) (pieces : List (List ℕ)) → fromText text .answer ≡ Refused n → (n ≡ 0 → ⊥)
+      → allWritten (textSession text) pieces ≡ answerLine (Refused n)

@@ -1,0 +1,85 @@
+-- A replay whose trace comes in pieces: what is kept from piece to piece, the lines that each piece gives out, and what is written at the end.
+use Prim.Native.Nat.{ℕ, _*_, _/_}
+use mathlib.Core.Bool.{false, cond, not, _&&_}
+use mathlib.Core.List.{List, [], _++_}
+use lib.Dec.{eqb, ltb}
+use lib.ListN.{length}
+use Rattle.bits.specs.Fold.{fold, outputs}
+use Rattle.steps.specs.Number.{refusalOf}
+use Rattle.steps.specs.declared.Answer.the-variants.{Refused}
+use Rattle.map.specs.declared.Map.{Map}
+use Rattle.hart.specs.declared.Hart.{Hart}
+use Rattle.hart.specs.declared.Stepped.{Stepped}
+use Rattle.hart.specs.Steps.{resetMapped}
+use Rattle.hart.specs.Saved.{restored}
+use Rattle.trace.specs.declared.Replay.{Replay}
+use Rattle.trace.specs.declared.Session.{Session}
+use Rattle.trace.specs.declared.Fed.{Fed}
+use Rattle.trace.specs.Buffers.{writtenLength}
+use Rattle.trace.specs.Answers.{answerLine}
+use Rattle.trace.specs.Batches.{afterInput, inputLines}
+use Rattle.trace.specs.Endings.{ending, leftOver}
+
+-- a session that starts with a hart and its map; a refusal other than 0 has ended it
+abbrev pub sessionFrom : Hart → Map → ℕ → Session
+sessionFrom h map refusal = record {
+  replay = record { hart = h; map = map; number = 0; stopped = false };
+  left = 0;
+  more = eqb refusal 0;
+  refusal = refusal;
+}
+
+unfoldable pub resetSession : Session
+resetSession = sessionFrom (resetMapped .hart) (resetMapped .map) 0
+
+-- 01, "Saved text": what reading a text back gives; a refused text starts nothing
+abbrev pub readSession : Stepped → Session
+readSession read = sessionFrom (read .hart) (read .map) (refusalOf (read .answer))
+
+unfoldable pub textSession : List ℕ → Session
+textSession text = readSession (restored (resetMapped .hart) (resetMapped .map) text)
+
+-- a full piece has 1,024 records
+abbrev pub fullPiece : ℕ
+fullPiece = 61440
+
+-- a piece that is not full is the last one, and after a broken record no more is read
+abbrev pub continued : Session → Replay → ℕ → Session
+continued s r came = record {
+  replay = r;
+  left = leftOver (r .stopped) came;
+  more = eqb came fullPiece && not (r .stopped);
+  refusal = s .refusal;
+}
+
+-- what a piece leaves, and its lines; a session that has ended stays and gives out nothing
+unfoldable pub afterPiece : Session → List ℕ → Session
+afterPiece s piece = cond (s .more) (continued s (afterInput (s .replay) piece) (length piece)) s
+
+unfoldable pub pieceLines : Session → List ℕ → List ℕ
+pieceLines s piece = cond (s .more) (inputLines (s .replay) piece) []
+
+-- 64 bytes for the line of each whole record
+abbrev pub pieceRoom : List ℕ → ℕ
+pieceRoom piece = 64 * (length piece / 60)
+
+-- feeding a piece; with a smaller buffer nothing is done
+unfoldable pub fed : Session → List ℕ → List ℕ → Fed
+fed s piece buffer = record {
+  session = cond (ltb (length buffer) (pieceRoom piece)) s (afterPiece s piece);
+  filled = writtenLength (pieceRoom piece) (pieceLines s piece) buffer;
+}
+
+-- the ending, or the line of the refusal alone; nothing where there may be more input
+unfoldable pub sessionEnding : Session → List ℕ
+sessionEnding s = cond (s .more) [] (cond (eqb (s .refusal) 0) (ending (s .replay) (s .left)) (answerLine (Refused (s .refusal))))
+
+-- the pieces in order: what they leave, and all that is written for them
+abbrev pub afterPieces : Session → List (List ℕ) → Session
+afterPieces s pieces = fold afterPiece s pieces
+
+abbrev pub piecesLines : Session → List (List ℕ) → List ℕ
+piecesLines s pieces = outputs afterPiece pieceLines s pieces
+
+abbrev pub allWritten : Session → List (List ℕ) → List ℕ
+allWritten s pieces = piecesLines s pieces ++ sessionEnding (afterPieces s pieces)

@@ -1,0 +1,118 @@
+// A trace in pieces: what goes on from one piece to the next, and what is written for each.
+use crate::Fed;
+use crate::Replay;
+use crate::Session;
+use crate::batch::batch;
+use crate::ending::left_over;
+use crate::ending::put_ending;
+use crate::writer::put_numbered;
+use hart::Hart;
+use map::Map;
+ghost use mathlib.Core.Path.{_≡_};
+ghost use Prim.Native.Nat.{_≤_};
+ghost use lib.ListN.{length};
+ghost use Rattle.trace.specs.Buffers.{writtenFront, writtenLength};
+ghost use Rattle.trace.specs.Sessions.{sessionFrom, resetSession, textSession, fed, pieceLines, pieceRoom, sessionEnding};
+
+fn session_from(hart: Hart, map: Map, refusal: u64) -> Session
+    ensures { λ r. ⌜ r ≡ sessionFrom hart map refusal ⌝ }
+{
+    let replay = Replay {
+        hart,
+        map,
+        number: 0,
+        stopped: false,
+    };
+    Session {
+        replay,
+        left: 0,
+        more: refusal == 0,
+        refusal,
+    }
+}
+
+impl Session {
+    // A session from reset.
+    pub fn from_reset() -> Session
+        ensures { λ r. ⌜ r ≡ resetSession ⌝ }
+    {
+        let reset = Hart::reset();
+        let hart = reset.hart;
+        let map = reset.map;
+        session_from(hart, map, 0)
+    }
+
+    // A session from a saved text. A refused text has ended it.
+    pub fn from_text(text: &[u8]) -> Session
+        ensures { λ r. ⌜ r ≡ textSession (now (text .entry)) ⌝ }
+    {
+        let reset = Hart::reset();
+        let before = reset.hart;
+        let given = reset.map;
+        let read = before.restore(given, text);
+        let answer = read.answer;
+        let refusal = steps::refusal_of(answer);
+        let hart = read.hart;
+        let map = read.map;
+        session_from(hart, map, refusal)
+    }
+
+    // Steps through the whole records of a piece and writes their lines to the front of a buffer that has 64 bytes for each. A piece of
+    // 61,440 bytes is full; any other is the last one. A session that has ended stays as it is, and so does one whose buffer is too small.
+    pub fn feed(self, piece: &[u8], out: &mut [u8]) -> Fed
+        ensures { λ r. ⌜ r ≡ fed self (now (piece .entry)) (now (out .entry)) ⌝ }
+        ensures { λ _. ⌜ now (out .exit) ≡ writtenFront (pieceRoom (now (piece .entry))) (pieceLines self (now (piece .entry))) (now (out .entry)) ⌝ }
+        ensures { λ r. ⌜ r .filled ≤ length (now (out .entry)) ⌝ }
+    {
+        if !self.more {
+            return Fed {
+                session: self,
+                filled: 0,
+            };
+        }
+        let came = piece.len();
+        if out.len() / 64 < came / 60 {
+            return Fed {
+                session: self,
+                filled: 0,
+            };
+        }
+        let start = self.replay;
+        let written = batch(piece, out, start);
+        let replay = written.replay;
+        let left = left_over(replay.stopped, came);
+        let more = (came == 61440) & !replay.stopped;
+        let session = Session {
+            replay,
+            left,
+            more,
+            refusal: self.refusal,
+        };
+        Fed {
+            session,
+            filled: written.filled,
+        }
+    }
+
+    // Writes what comes behind the lines of the records to the front of a buffer of at least 4,096 bytes: the saved text of the end state, the
+    // ranges of the map and the bytes left over, or the refusal of the text alone. Nothing is written where there may be more input.
+    pub fn finish(self, out: &mut [u8]) -> usize
+        ensures { λ r. ⌜ r ≡ writtenLength 4096 (sessionEnding self) (now (out .entry)) ⌝ }
+        ensures { λ _. ⌜ now (out .exit) ≡ writtenFront 4096 (sessionEnding self) (now (out .entry)) ⌝ }
+        ensures { λ r. ⌜ r ≤ length (now (out .entry)) ⌝ }
+    {
+        if self.more {
+            return 0;
+        }
+        if out.len() < 4096 {
+            return 0;
+        }
+        let refusal = self.refusal;
+        if refusal == 0 {
+            let replay = self.replay;
+            put_ending(replay, self.left, out)
+        } else {
+            put_numbered(b"refused ", refusal, out, 0)
+        }
+    }
+}
