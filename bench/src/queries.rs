@@ -3,19 +3,29 @@
 use std::hint::black_box;
 
 use reference::capi::{self, Question};
-use reference::{Access, Mode, query};
+use reference::{Access, HART_WORDS, Hart, MAP_WORDS, Map, Mode, query};
 
 use crate::contest::{Work, contest};
 use crate::mixes::setting;
 use crate::processor::here;
 
-const QUESTIONS: usize = 1 << 18;
+/// A multiple of the number of different questions.
+const COUNT: usize = 306 * 857;
 
 /// Nanoseconds a query.
 pub struct Row {
     pub map: f64,
     pub byte_rule: f64,
     pub product: f64,
+}
+
+/// A hart and its map, in both forms, and what is asked.
+pub struct Queries {
+    hart: Hart,
+    map: Map,
+    hart_words: [u64; HART_WORDS],
+    map_words: [u64; MAP_WORDS],
+    questions: Vec<(Mode, Access, Question)>,
 }
 
 /// Aligned accesses to the bytes of all ranges, in all modes, of all kinds.
@@ -33,37 +43,56 @@ fn questions() -> Vec<(Mode, Access, Question)> {
         .collect()
 }
 
-pub fn row(rounds: u32) -> Row {
-    let (hart, map) = setting();
-    let (hart_words, map_words) = (hart.to_words(), map.to_words());
-    let questions = questions();
-    let asked = || black_box(&questions).iter().cycle().take(QUESTIONS);
-    let by_map = || {
-        asked()
+impl Queries {
+    pub fn new() -> Queries {
+        let (hart, map) = setting();
+        let (hart_words, map_words) = (hart.to_words(), map.to_words());
+        Queries { hart, map, hart_words, map_words, questions: questions() }
+    }
+
+    fn asked(&self, count: usize) -> impl Iterator<Item = &(Mode, Access, Question)> {
+        black_box(&self.questions).iter().cycle().take(count)
+    }
+
+    pub fn by_map(&self, count: usize) -> u64 {
+        self.asked(count)
             .map(|&(mode, access, q)| {
-                query(&hart, &map, mode, access, q.address, q.size).words()[0]
+                query(&self.hart, &self.map, mode, access, q.address, q.size).words()[0]
             })
-            .sum::<u64>()
-    };
-    let by_bytes = || {
+            .sum()
+    }
+
+    pub fn by_bytes(&self, count: usize) -> u64 {
         let granted = |&&(mode, access, q): &&(Mode, Access, Question)| {
-            hart.byte_rule(mode.number(), access, q.address, q.size)
+            self.hart.byte_rule(mode.number(), access, q.address, q.size)
         };
-        asked().filter(granted).count() as u64
-    };
-    let by_product = || {
+        self.asked(count).filter(granted).count() as u64
+    }
+
+    pub fn by_product(&self, count: usize) -> u64 {
         let mut answer = [0; 3];
-        asked()
+        self.asked(count)
             .map(|&(_, _, question)| {
-                capi::query(&hart_words, &map_words, question, &mut answer);
+                capi::query(&self.hart_words, &self.map_words, question, &mut answer);
                 answer[0]
             })
-            .sum::<u64>()
-    };
-    assert_eq!(by_map(), by_product(), "the product answers queries differently");
-    let mut contenders: [Work<'_>; 3] =
-        [Box::new(|| here(by_map)), Box::new(|| here(by_bytes)), Box::new(|| here(by_product))];
+            .sum()
+    }
+}
+
+pub fn row(rounds: u32) -> Row {
+    let queries = Queries::new();
+    assert_eq!(
+        queries.by_map(COUNT),
+        queries.by_product(COUNT),
+        "the product answers queries differently"
+    );
+    let mut contenders: [Work<'_>; 3] = [
+        Box::new(|| here(|| queries.by_map(COUNT))),
+        Box::new(|| here(|| queries.by_bytes(COUNT))),
+        Box::new(|| here(|| queries.by_product(COUNT))),
+    ];
     let best = contest(rounds, &mut contenders);
-    let each = |place: usize| best[place].as_secs_f64() * 1e9 / QUESTIONS as f64;
+    let each = |place: usize| best[place].as_secs_f64() * 1e9 / COUNT as f64;
     Row { map: each(0), byte_rule: each(1), product: each(2) }
 }
