@@ -1,8 +1,10 @@
 // What a write stores.
-use registers::Registers;
 use registers::fields;
 use registers::masks;
 ghost use mathlib.Core.Path.{_≡_};
+ghost use lib.ListN.{length};
+ghost use Rattle.state.specs.Words.{registersOf};
+ghost use Rattle.state.specs.Slices.{storedRegisters};
 ghost use Rattle.csr.specs.Store.{statusWritten, tvecWritten, registersWritten};
 
 // mstatus: MPP written 2 keeps its old field.
@@ -24,120 +26,38 @@ fn tvec_written(old: u64, value: u64) -> u64
     if value % 4 < 2 { value } else { old }
 }
 
-// The registers after a write of any value to any number.
-pub(crate) fn write(r: Registers, number: u64, value: u64) -> Registers
-    ensures { λ after. ⌜ after ≡ registersWritten r number value ⌝ }
+// A write of any value to any number, in the words where they lie: each number stores to one word at most, and no other moves.
+pub(crate) fn write(words: &mut [u64], number: u64, value: u64)
+    requires { ⌜ length (now words) ≡ 41 ⌝ }
+    ensures { λ _. ⌜ now (words .exit) ≡ storedRegisters (registersWritten (registersOf (now (words .entry))) number value) (now (words .entry)) ⌝ }
 {
-    let mut w = r;
     match number {
-        0x100 => {
-            w.mstatus = (r.mstatus & !masks::SSTATUS) | (value & masks::SSTATUS);
-            w
-        }
-        0x104 => {
-            let mideleg = r.interrupts.mideleg;
-            let mie = (r.interrupts.mie & !mideleg) | (value & mideleg);
-            w.interrupts.mie = mie;
-            w
-        }
-        0x105 => {
-            let tvec = tvec_written(r.supervisor.tvec, value);
-            w.supervisor.tvec = tvec;
-            w
-        }
-        0x106 => {
-            let counteren = value & masks::COUNTERS;
-            w.supervisor.counteren = counteren;
-            w
-        }
-        0x140 => {
-            w.supervisor.scratch = value;
-            w
-        }
-        0x141 => {
-            let epc = value - value % 4;
-            w.supervisor.epc = epc;
-            w
-        }
-        0x142 => {
-            let cause = value & masks::CAUSE;
-            w.supervisor.cause = cause;
-            w
-        }
-        0x143 => {
-            w.supervisor.tval = value;
-            w
-        }
+        0x100 => words[2] = (words[2] & !masks::SSTATUS) | (value & masks::SSTATUS),
+        0x104 => words[5] = (words[5] & !words[4]) | (value & words[4]),
+        0x105 => words[15] = tvec_written(words[15], value),
+        0x106 => words[16] = value & masks::COUNTERS,
+        0x140 => words[17] = value,
+        0x141 => words[18] = value - value % 4,
+        0x142 => words[19] = value & masks::CAUSE,
+        0x143 => words[20] = value,
         0x144 => {
-            let delegated = r.interrupts.mideleg & 0x2;
-            let mip = (r.interrupts.mip & !delegated) | (value & delegated);
-            w.interrupts.mip = mip;
-            w
+            let delegated = words[4] & 0x2;
+            words[6] = (words[6] & !delegated) | (value & delegated);
         }
-        0x300 => {
-            w.mstatus = status_written(r.mstatus, value);
-            w
-        }
-        0x302 => {
-            w.medeleg = value & masks::MEDELEG;
-            w
-        }
-        0x303 => {
-            let mideleg = value & masks::MIDELEG;
-            w.interrupts.mideleg = mideleg;
-            w
-        }
-        0x304 => {
-            let mie = value & masks::MIE;
-            w.interrupts.mie = mie;
-            w
-        }
-        0x305 => {
-            let tvec = tvec_written(r.machine.tvec, value);
-            w.machine.tvec = tvec;
-            w
-        }
-        0x306 => {
-            let counteren = value & masks::COUNTERS;
-            w.machine.counteren = counteren;
-            w
-        }
-        0x320 => {
-            let mcountinhibit = value & masks::COUNTERS;
-            w.counters.mcountinhibit = mcountinhibit;
-            w
-        }
-        0x340 => {
-            w.machine.scratch = value;
-            w
-        }
-        0x341 => {
-            let epc = value - value % 4;
-            w.machine.epc = epc;
-            w
-        }
-        0x342 => {
-            let cause = value & masks::CAUSE;
-            w.machine.cause = cause;
-            w
-        }
-        0x343 => {
-            w.machine.tval = value;
-            w
-        }
-        0x344 => {
-            let mip = value & masks::MIP;
-            w.interrupts.mip = mip;
-            w
-        }
-        0xB00 => {
-            w.counters.mcycle = value;
-            w
-        }
-        0xB02 => {
-            w.counters.minstret = value;
-            w
-        }
-        _ => r,
+        0x300 => words[2] = status_written(words[2], value),
+        0x302 => words[3] = value & masks::MEDELEG,
+        0x303 => words[4] = value & masks::MIDELEG,
+        0x304 => words[5] = value & masks::MIE,
+        0x305 => words[8] = tvec_written(words[8], value),
+        0x306 => words[9] = value & masks::COUNTERS,
+        0x320 => words[10] = value & masks::COUNTERS,
+        0x340 => words[11] = value,
+        0x341 => words[12] = value - value % 4,
+        0x342 => words[13] = value & masks::CAUSE,
+        0x343 => words[14] = value,
+        0x344 => words[6] = value & masks::MIP,
+        0xB00 => words[21] = value,
+        0xB02 => words[22] = value,
+        _ => {}
     }
 }
