@@ -10,19 +10,24 @@ ghost use lib.ListN.{length};
 ghost use Rattle.state.specs.Words.{stateOf};
 ghost use Rattle.engine.specs.Effects.{accessAt, accessStep};
 
+// Only a fault reads and writes all registers.
 fn access_at(words: &mut [u64], access: Access, address: u64, size: u64) -> Answer
     requires { ⌜ length (now words) ≡ 41 ⌝ }
     ensures { λ r. ⌜ r ≡ accessAt (stateOf (now (words .entry))) access address size .answer ⌝ }
     ensures { λ _. ⌜ stateOf (now (words .exit)) ≡ accessAt (stateOf (now (words .entry))) access address size .state ⌝ }
 {
-    let registers = load_registers(words);
     let pmp = load_pmp(words);
     let cfgs = pmp.cfgs;
     let addrs = pmp.addrs;
-    let mode = registers::effective_mode(registers, access);
+    let mode = registers::effective_mode(load_registers(words), access);
     match pmp::check(cfgs, addrs, mode, access, address, size) {
         Decision::Granted => Answer::Granted,
-        Decision::Fault(cause) => leave(trap::enter::raise(registers, cause, address), words),
+        Decision::Fault(cause) => {
+            leave(
+                trap::enter::raise(load_registers(words), cause, address),
+                words,
+            )
+        }
         Decision::Refused(number) => Answer::Refused(number),
     }
 }

@@ -79,6 +79,9 @@ module _ (w : List ℕ) (fit : length w ≡ 41) where
   pub registers-length : (r : Registers) → length (storedRegisters r w) ≡ 41
   registers-length r = ap length (registers-put w fit r) ∙ length-sets w 0 (registerWords r) ∙ fit
 
+  pub pmp-length : (p : Pmp) → length (storedPmp p w) ≡ 41
+  pmp-length p = ap length (pmp-put w fit p) ∙ length-sets w 23 (pmpWords p) ∙ fit
+
   -- the words that a whole state leaves are its own
   pub all-stored : (s : State) → stored s w ≡ wordsOf s
   all-stored s =
