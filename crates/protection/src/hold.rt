@@ -6,7 +6,7 @@ ghost use Rattle.bits.specs.Lists.{all};
 ghost use Rattle.bits.specs.Same.{sameList};
 ghost use Rattle.protection.specs.Arrays.{Arrays};
 ghost use Rattle.protection.specs.Configs.{unpacked, configsOf};
-ghost use Rattle.protection.specs.Hold.{configHoldable, addressHoldable, pmpHoldable, resetPmp};
+ghost use Rattle.protection.specs.Hold.{configHoldable, addressHoldable, resetPmp};
 ghost use Rattle.protection.specs.Same.{samePmp};
 
 // Eight configuration bytes at once: in each, bits 5 and 6 are zero, and R is set where W is.
@@ -35,30 +35,6 @@ pub fn addresses_can_hold(addrs: &[u64]) -> bool
         i += 1;
     }
     any < 0x40000000000000
-}
-
-fn arrays_can_hold(cfgs: [u8; 16], addrs: [u64; 16]) -> bool
-    ensures { λ r. ⌜ r ≡ (all configHoldable cfgs && all addressHoldable addrs) ⌝ }
-{
-    let mut configs = true;
-    let mut addresses = true;
-    let mut i: usize = 0;
-    while i < 16 {
-        let cfg = cfgs[i];
-        configs = configs & ((cfg & 0x60 == 0) & (cfg & 3 != 2));
-        addresses = addresses & (addrs[i] < 0x40000000000000);
-        i += 1;
-    }
-    configs & addresses
-}
-
-// Whether a hart can hold these registers.
-pub fn can_hold(pmp: Pmp) -> bool
-    ensures { λ r. ⌜ r ≡ pmpHoldable pmp ⌝ }
-{
-    let cfgs = pmp.cfgs;
-    let addrs = pmp.addrs;
-    arrays_can_hold(cfgs, addrs)
 }
 
 pub fn reset() -> Pmp
