@@ -12,7 +12,7 @@ ghost use lib.Seq.{sets};
 ghost use Rattle.state.specs.Words.{registerWords, pmpWords, wordsOf, registersOf, pmpOf, stateOf};
 ghost use Rattle.state.specs.Slices.{loaded, loadedRegisters, loadedPmp, stored, storedRegisters, storedPmp};
 
-fn registers_at(words: &[u64]) -> Registers
+pub(crate) fn registers_at(words: &[u64]) -> Registers
     requires { ⌜ length (now words) ≡ 41 ⌝ }
     ensures { λ r. ⌜ r ≡ registersOf (now (words .entry)) ⌝ }
 {
