@@ -12,9 +12,10 @@ use Rattle.pmp.specs.declared.Access.{Access}
 use Rattle.pmp.specs.declared.Decision.{Decision}
 use Rattle.pmp.specs.Rule.{checked}
 use Rattle.steps.specs.declared.Operation.{Operation}
+use Rattle.steps.specs.declared.Level.{Level}
 use Rattle.steps.specs.declared.Event.{Event}
 use Rattle.steps.specs.declared.Answer.{Answer}
-use Rattle.steps.specs.declared.Answer.the-variants.{DoneValue, Refused}
+use Rattle.steps.specs.declared.Answer.the-variants.{Done, DoneValue, Refused}
 use Rattle.registers.specs.declared.Registers.{Registers}
 use Rattle.registers.specs.Update.{withPc}
 use Rattle.registers.specs.Effective.{effectiveMode}
@@ -34,7 +35,7 @@ use Rattle.csr.specs.Show.{registerRead}
 use Rattle.csr.specs.Operate.{registersOperated}
 use Rattle.trap.specs.declared.Outcome.{Outcome}
 use Rattle.trap.specs.Enter.{raised, illegalInstruction}
-use Rattle.trap.specs.Return.{nextPc}
+use Rattle.trap.specs.Return.{returned, mayReturn, returnStep, nextPc}
 use Rattle.trap.specs.Events.{eventStep}
 use Rattle.engine.specs.declared.Taken.{Taken}
 use Rattle.engine.specs.Effects.{Effect, refused, withRegisters, onRegisters, pmpOperated, csrCompleted, protectionStep, registerStep, csrStep, accessDecided, accessAt, eventEffect}
@@ -74,6 +75,26 @@ module _ (w : List ℕ) (fit : length w ≡ 41) where
   left rule er eo ea ex =
       let e = eo ∙ ap rule (er ∙ registers-loaded w fit) in
       (ea ∙ ap (λ (o : Outcome). o .answer) e, ex ∙ ap (λ (o : Outcome). withRegisters (stateOf w) (o .registers)) e)
+
+  -- a return, from whether the mode may and what was stored
+  module _ (level : Level) {r : Registers} (er : r ≡ loadedRegisters w) {b : Bool} (eb : b ≡ mayReturn level r) where
+    may : mayReturn level (registersOf w) ≡ b
+    may = sym (eb ∙ ap (mayReturn level) (er ∙ registers-loaded w fit))
+
+    pub return-illegal : b ≡ false → {again : Registers} → again ≡ loadedRegisters w → {o : Outcome} {a : Answer} {x : State} → o ≡ illegalInstruction again
+        → a ≡ o .answer → x ≡ withRegisters (stateOf w) (o .registers) → Does (onRegisters (stateOf w) (returnStep level (registersOf w))) a x
+    unfolding returnStep
+    return-illegal e el eo ea ex = rw (may, e) (left illegalInstruction el eo ea ex)
+
+    pub return-done : b ≡ true → {again : Registers} → again ≡ loadedRegisters w → {after : Registers} → after ≡ returned level again → {x : List ℕ}
+        → x ≡ storedRegisters after w → Does (onRegisters (stateOf w) (returnStep level (registersOf w))) Done (stateOf x)
+    unfolding returnStep
+    return-done e el {after} ea ex =
+        rw (may, e) (
+          refl,
+          ap stateOf ex ∙ registers-stored w fit after
+              ∙ ap (withRegisters (stateOf w)) (ea ∙ ap (returned level) (el ∙ registers-loaded w fit)),
+        )
 
   -- an event, from what its rule made of the registers
   pub event-does : {event named : Event} → event ≡ named → {r : Registers} {o : Outcome} {a : Answer} {x : State} → r ≡ loadedRegisters w

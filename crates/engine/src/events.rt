@@ -22,16 +22,23 @@ pub(crate) fn leave(outcome: Outcome, words: &mut [u64]) -> Answer
     outcome.answer
 }
 
-// MRET for the machine level, SRET for the supervisor level. Both come through here, so that `return_from` has one caller and is not called with copies.
+// MRET for the machine level, SRET for the supervisor level. A return stores three words, and only an illegal one moves all registers.
 fn step_return(words: &mut [u64], level: Level) -> Answer
     requires { ⌜ length (now words) ≡ 41 ⌝ }
     ensures { λ r. ⌜ r ≡ onRegisters (stateOf (now (words .entry))) (returnStep level (registersOf (now (words .entry)))) .answer ⌝ }
     ensures { λ _. ⌜ stateOf (now (words .exit)) ≡ onRegisters (stateOf (now (words .entry))) (returnStep level (registersOf (now (words .entry)))) .state ⌝ }
 {
-    leave(
-        trap::returns::return_from(level, load_registers(words)),
+    if !trap::returns::may_return(level, load_registers(words)) {
+        return leave(
+            trap::enter::illegal_instruction(load_registers(words)),
+            words,
+        );
+    }
+    store_registers(
+        trap::returns::return_registers(level, load_registers(words)),
         words,
-    )
+    );
+    Answer::Done
 }
 
 // Each arm reads the registers for itself, so that it moves only those that it needs.

@@ -108,28 +108,17 @@ pub fn store_registers(registers: Registers, words: &mut [u64])
     put_registers(registers, words);
 }
 
+// The addresses are copied by a loop, here and below: it becomes one copy of 128 bytes, where sixteen reads would take a place each.
 fn pmp_at(words: &[u64]) -> Pmp
     requires { ⌜ length (now words) ≡ 41 ⌝ }
     ensures { λ r. ⌜ r ≡ pmpOf (now (words .entry)) ⌝ }
 {
-    let addrs = [
-        words[25],
-        words[26],
-        words[27],
-        words[28],
-        words[29],
-        words[30],
-        words[31],
-        words[32],
-        words[33],
-        words[34],
-        words[35],
-        words[36],
-        words[37],
-        words[38],
-        words[39],
-        words[40],
-    ];
+    let mut addrs = [0u64; 16];
+    let mut i: usize = 0;
+    while i < 16 {
+        addrs[i] = words[25 + i];
+        i += 1;
+    }
     let cfgs = protection::configs_of(words[23], words[24]);
     Pmp { cfgs, addrs }
 }
@@ -152,22 +141,11 @@ fn put_pmp(pmp: Pmp, words: &mut [u64])
     let addrs = pmp.addrs;
     words[23] = protection::pmpcfg0(cfgs);
     words[24] = protection::pmpcfg2(cfgs);
-    words[25] = addrs[0];
-    words[26] = addrs[1];
-    words[27] = addrs[2];
-    words[28] = addrs[3];
-    words[29] = addrs[4];
-    words[30] = addrs[5];
-    words[31] = addrs[6];
-    words[32] = addrs[7];
-    words[33] = addrs[8];
-    words[34] = addrs[9];
-    words[35] = addrs[10];
-    words[36] = addrs[11];
-    words[37] = addrs[12];
-    words[38] = addrs[13];
-    words[39] = addrs[14];
-    words[40] = addrs[15];
+    let mut i: usize = 0;
+    while i < 16 {
+        words[25 + i] = addrs[i];
+        i += 1;
+    }
 }
 
 // Writes the protection registers.
