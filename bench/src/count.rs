@@ -4,28 +4,51 @@
 use std::error::Error;
 use std::hint::black_box;
 
-use crate::mixes::MIXES;
+use crate::mixes::{MIXES, Mix};
 use crate::queries::Queries;
 use crate::steps;
 use crate::texts::Texts;
 
-/// `work` is a mix's number, `query`, `save` or `restore`.
+/// `work` is `query`, `save`, `restore` or a mix's number.
 pub fn count(work: &str, contender: &str, times: &str) -> Result<(), Box<dyn Error>> {
-    let times: usize = times.parse()?;
-    match (work, contender) {
-        ("query", "rust") => drop(black_box(Queries::new().by_map(times))),
-        ("query", "bytes") => drop(black_box(Queries::new().by_bytes(times))),
-        ("query", "product") => drop(black_box(Queries::new().by_product(times))),
-        ("save", "rust") => Texts::new().save_rust(times),
-        ("save", "product") => Texts::new().save_product(times),
-        ("restore", "rust") => Texts::new().restore_rust(times),
-        ("restore", "product") => Texts::new().restore_product(times),
-        _ => {
-            let mix =
-                MIXES.iter().find(|mix| mix.number.to_string() == work).ok_or("which work?")?;
-            let way = steps::way(contender).ok_or("which contender?")?;
-            black_box(way(mix, times as u64));
-        }
+    let times = times.parse()?;
+    match work {
+        "query" => query(contender, times),
+        "save" | "restore" => text(work, contender, times),
+        number => MIXES
+            .iter()
+            .find(|mix| mix.number.to_string() == number)
+            .and_then(|mix| step(mix, contender, times)),
     }
-    Ok(())
+    .ok_or_else(|| format!("no contender {contender} at {work}").into())
+}
+
+fn step(mix: &Mix, contender: &str, times: usize) -> Option<()> {
+    let way = steps::way(contender)?;
+    black_box(way(mix, times as u64));
+    Some(())
+}
+
+fn query(contender: &str, times: usize) -> Option<()> {
+    let queries = Queries::new();
+    let answers = match contender {
+        "rust" => queries.by_map(times),
+        "bytes" => queries.by_bytes(times),
+        "product" => queries.by_product(times),
+        _ => return None,
+    };
+    black_box(answers);
+    Some(())
+}
+
+fn text(work: &str, contender: &str, times: usize) -> Option<()> {
+    let texts = Texts::new();
+    match (work, contender) {
+        ("save", "rust") => texts.save_rust(times),
+        ("save", "product") => texts.save_product(times),
+        ("restore", "rust") => texts.restore_rust(times),
+        ("restore", "product") => texts.restore_product(times),
+        _ => return None,
+    }
+    Some(())
 }
