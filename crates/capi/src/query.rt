@@ -2,6 +2,7 @@
 use crate::maps::find;
 use pmp::Access;
 use pmp::Decision;
+use state::places;
 ghost use mathlib.Core.Path.{_≡_};
 ghost use lib.ListN.{length};
 ghost use Rattle.pmp.specs.Number.{modeOf};
@@ -36,7 +37,7 @@ pub(crate) fn ask(
     if !state::words_can_hold(hart) {
         return Decision::Refused(3);
     }
-    let cfgs = protection::configs_of(hart[23], hart[24]);
+    let cfgs = protection::configs_of(hart[places::PMPCFG0], hart[places::PMPCFG2]);
     let found = find(map, address);
     map::found_decides(
         cfgs,

@@ -1,6 +1,7 @@
 // A write, a set or a clear of any register.
 use crate::permit::attempts_write;
 use crate::store::write;
+use state::places;
 use steps::Operation;
 ghost use mathlib.Core.Path.{_≡_};
 ghost use lib.ListN.{length};
@@ -25,7 +26,11 @@ fn modified_from(words: &[u64], number: u64, old: u64) -> u64
     requires { ⌜ length (now words) ≡ 41 ⌝ }
     ensures { λ from. ⌜ from ≡ modifiedFrom (registersOf (now (words .entry))) number old ⌝ }
 {
-    if number == 0x344 { words[6] } else { old }
+    if number == 0x344 {
+        words[places::MIP]
+    } else {
+        old
+    }
 }
 
 // A CSR step that is not illegal, on the words of a hart. `old` is what a read gave before it.

@@ -1,6 +1,7 @@
 // What a write stores.
 use registers::fields;
 use registers::masks;
+use state::places;
 ghost use mathlib.Core.Path.{_≡_};
 ghost use lib.ListN.{length};
 ghost use Rattle.state.specs.Words.{registersOf};
@@ -32,32 +33,34 @@ pub(crate) fn write(words: &mut [u64], number: u64, value: u64)
     ensures { λ _. ⌜ now (words .exit) ≡ storedRegisters (registersWritten (registersOf (now (words .entry))) number value) (now (words .entry)) ⌝ }
 {
     match number {
-        0x100 => words[2] = (words[2] & !masks::SSTATUS) | (value & masks::SSTATUS),
-        0x104 => words[5] = (words[5] & !words[4]) | (value & words[4]),
-        0x105 => words[15] = tvec_written(words[15], value),
-        0x106 => words[16] = value & masks::COUNTERS,
-        0x140 => words[17] = value,
-        0x141 => words[18] = value - value % 4,
-        0x142 => words[19] = value & masks::CAUSE,
-        0x143 => words[20] = value,
+        0x100 => words[places::MSTATUS] = (words[places::MSTATUS] & !masks::SSTATUS)
+            | (value & masks::SSTATUS),
+        0x104 => words[places::MIE] = (words[places::MIE] & !words[places::MIDELEG])
+            | (value & words[places::MIDELEG]),
+        0x105 => words[places::STVEC] = tvec_written(words[places::STVEC], value),
+        0x106 => words[places::SCOUNTEREN] = value & masks::COUNTERS,
+        0x140 => words[places::SSCRATCH] = value,
+        0x141 => words[places::SEPC] = value - value % 4,
+        0x142 => words[places::SCAUSE] = value & masks::CAUSE,
+        0x143 => words[places::STVAL] = value,
         0x144 => {
-            let delegated = words[4] & 0x2;
-            words[6] = (words[6] & !delegated) | (value & delegated);
+            let delegated = words[places::MIDELEG] & 0x2;
+            words[places::MIP] = (words[places::MIP] & !delegated) | (value & delegated);
         }
-        0x300 => words[2] = status_written(words[2], value),
-        0x302 => words[3] = value & masks::MEDELEG,
-        0x303 => words[4] = value & masks::MIDELEG,
-        0x304 => words[5] = value & masks::MIE,
-        0x305 => words[8] = tvec_written(words[8], value),
-        0x306 => words[9] = value & masks::COUNTERS,
-        0x320 => words[10] = value & masks::COUNTERS,
-        0x340 => words[11] = value,
-        0x341 => words[12] = value - value % 4,
-        0x342 => words[13] = value & masks::CAUSE,
-        0x343 => words[14] = value,
-        0x344 => words[6] = value & masks::MIP,
-        0xB00 => words[21] = value,
-        0xB02 => words[22] = value,
+        0x300 => words[places::MSTATUS] = status_written(words[places::MSTATUS], value),
+        0x302 => words[places::MEDELEG] = value & masks::MEDELEG,
+        0x303 => words[places::MIDELEG] = value & masks::MIDELEG,
+        0x304 => words[places::MIE] = value & masks::MIE,
+        0x305 => words[places::MTVEC] = tvec_written(words[places::MTVEC], value),
+        0x306 => words[places::MCOUNTEREN] = value & masks::COUNTERS,
+        0x320 => words[places::MCOUNTINHIBIT] = value & masks::COUNTERS,
+        0x340 => words[places::MSCRATCH] = value,
+        0x341 => words[places::MEPC] = value - value % 4,
+        0x342 => words[places::MCAUSE] = value & masks::CAUSE,
+        0x343 => words[places::MTVAL] = value,
+        0x344 => words[places::MIP] = value & masks::MIP,
+        0xB00 => words[places::MCYCLE] = value,
+        0xB02 => words[places::MINSTRET] = value,
         _ => {}
     }
 }

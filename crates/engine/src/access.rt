@@ -4,6 +4,7 @@ use pmp::Access;
 use pmp::Decision;
 use state::load_pmp;
 use state::load_registers;
+use state::places;
 use steps::Answer;
 ghost use mathlib.Core.Path.{_≡_};
 ghost use lib.ListN.{length};
@@ -37,7 +38,7 @@ pub(crate) fn step_access(words: &mut [u64], access: Access, address: u64, size:
     ensures { λ r. ⌜ r ≡ accessStep (stateOf (now (words .entry))) access address size .answer ⌝ }
     ensures { λ _. ⌜ stateOf (now (words .exit)) ≡ accessStep (stateOf (now (words .entry))) access address size .state ⌝ }
 {
-    let pc = words[1];
+    let pc = words[places::PC];
     match access {
         Access::Fetch => access_at(words, Access::Fetch, pc, 4),
         Access::Load => access_at(words, Access::Load, address, size),

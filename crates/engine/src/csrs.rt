@@ -4,6 +4,7 @@ use crate::events::leave;
 use protection::Pmp;
 use state::load_pmp;
 use state::load_registers;
+use state::places;
 use state::store_pmp;
 use steps::Answer;
 use steps::Operation;
@@ -35,9 +36,9 @@ fn step_protection(words: &mut [u64], operation: Operation, number: u64, operand
     let old = protection::read_register(before, number);
     let after = operate_pmp(before, operation, number, operand, old);
     protection::typed(after);
-    let pc = trap::returns::next_pc(words[1]);
+    let pc = trap::returns::next_pc(words[places::PC]);
     store_pmp(after, words);
-    words[1] = pc;
+    words[places::PC] = pc;
     Taken {
         answer: Answer::DoneValue(old),
         held: true,
@@ -75,8 +76,8 @@ pub(crate) fn step_csr(words: &mut [u64], operation: Operation, number: u64, ope
         return step_protection(words, operation, number, operand);
     }
     let old = csr::read(load_registers(words), number);
-    let pc = trap::returns::next_pc(words[1]);
+    let pc = trap::returns::next_pc(words[places::PC]);
     csr::operate(words, operation, number, operand, old);
-    words[1] = pc;
+    words[places::PC] = pc;
     apart(Answer::DoneValue(old))
 }

@@ -1,5 +1,6 @@
 // What a hart can hold, and what reset gives.
 use crate::State;
+use crate::places;
 use crate::words::registers_at;
 use crate::words::to_words;
 ghost use mathlib.Core.Path.{_≡_};
@@ -14,7 +15,7 @@ pub fn words_can_hold(words: &[u64]) -> bool
         return true;
     }
     let registers = registers::registers_can_hold(registers_at(words));
-    let configs = protection::configs_can_hold(words[23], words[24]);
+    let configs = protection::configs_can_hold(words[places::PMPCFG0], words[places::PMPCFG2]);
     let addresses = protection::addresses_can_hold(&words[25..41]);
     registers & (configs & addresses)
 }

@@ -3,6 +3,7 @@ use protection::Pmp;
 use registers::Registers;
 
 mod hold;
+pub mod places;
 mod words;
 
 pub use hold::can_hold;
