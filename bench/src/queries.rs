@@ -12,6 +12,9 @@ use crate::processor::here;
 /// A multiple of the number of different questions.
 const COUNT: usize = 306 * 857;
 
+/// The first word of an answer that grants.
+const GRANTED: u64 = 3;
+
 /// Nanoseconds a query.
 pub struct Row {
     pub map: f64,
@@ -26,6 +29,20 @@ pub struct Queries {
     hart_words: [u64; HART_WORDS],
     map_words: [u64; MAP_WORDS],
     questions: Vec<(Mode, Access, Question)>,
+}
+
+/// What the answers come to: how many were granted, and the sum of all words.
+#[derive(Clone, Copy, PartialEq, Eq, Debug, Default)]
+pub struct Tally {
+    granted: u64,
+    sum: u64,
+}
+
+impl Tally {
+    fn add(&mut self, [kind, first, second]: [u64; 3]) {
+        self.granted += u64::from(kind == GRANTED);
+        self.sum += kind + first + second;
+    }
 }
 
 /// Aligned accesses to the bytes of all ranges, in all modes, of all kinds.
@@ -54,39 +71,40 @@ impl Queries {
         black_box(&self.questions).iter().cycle().take(count)
     }
 
-    pub fn by_map(&self, count: usize) -> u64 {
-        self.asked(count)
-            .map(|&(mode, access, q)| {
-                query(&self.hart, &self.map, mode, access, q.address, q.size).words()[0]
-            })
-            .sum()
+    pub fn by_map(&self, count: usize) -> Tally {
+        let mut tally = Tally::default();
+        for &(mode, access, q) in self.asked(count) {
+            let (hart, map) = (black_box(&self.hart), black_box(&self.map));
+            tally.add(query(hart, map, mode, access, q.address, q.size).words());
+        }
+        tally
     }
 
+    /// The byte rule says of an access whether it is granted, and no more.
     pub fn by_bytes(&self, count: usize) -> u64 {
         let granted = |&&(mode, access, q): &&(Mode, Access, Question)| {
-            self.hart.byte_rule(mode.number(), access, q.address, q.size)
+            black_box(&self.hart).byte_rule(mode.number(), access, q.address, q.size)
         };
         self.asked(count).filter(granted).count() as u64
     }
 
-    pub fn by_product(&self, count: usize) -> u64 {
+    pub fn by_product(&self, count: usize) -> Tally {
+        let mut tally = Tally::default();
         let mut answer = [0; 3];
-        self.asked(count)
-            .map(|&(_, _, question)| {
-                capi::query(&self.hart_words, &self.map_words, question, &mut answer);
-                answer[0]
-            })
-            .sum()
+        for &(_, _, question) in self.asked(count) {
+            let (hart, map) = (black_box(&self.hart_words), black_box(&self.map_words));
+            capi::query(hart, map, question, &mut answer);
+            tally.add(answer);
+        }
+        tally
     }
 }
 
 pub fn row(rounds: u32) -> Row {
     let queries = Queries::new();
-    assert_eq!(
-        queries.by_map(COUNT),
-        queries.by_product(COUNT),
-        "the product answers queries differently"
-    );
+    let wanted = queries.by_map(COUNT);
+    assert_eq!(wanted, queries.by_product(COUNT), "the product answers queries differently");
+    assert_eq!(wanted.granted, queries.by_bytes(COUNT), "the byte rule grants others");
     let mut contenders: [Work<'_>; 3] = [
         Box::new(|| here(|| queries.by_map(COUNT))),
         Box::new(|| here(|| queries.by_bytes(COUNT))),

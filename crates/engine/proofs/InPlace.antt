@@ -38,7 +38,7 @@ use Rattle.trap.specs.Enter.{raised, illegalInstruction}
 use Rattle.trap.specs.Return.{returned, mayReturn, returnStep, nextPc}
 use Rattle.trap.specs.Events.{eventStep}
 use Rattle.engine.specs.declared.Taken.{Taken}
-use Rattle.engine.specs.Effects.{Effect, refused, withRegisters, onRegisters, pmpOperated, csrCompleted, protectionStep, registerStep, csrStep, accessDecided, accessAt, eventEffect}
+use Rattle.engine.specs.Effects.{Effect, refused, withRegisters, onRegisters, pmpOperated, protectionStep, registerStep, csrStep, accessDecided, accessAt, eventEffect}
 use Rattle.engine.specs.Taking.{taken}
 
 -- an answer, and the state of the words that are left: those of an effect

@@ -11,7 +11,7 @@ ghost use lib.ListN.{length};
 ghost use Rattle.state.specs.Words.{stateOf};
 ghost use Rattle.engine.specs.Effects.{accessAt, accessStep};
 
-// Only a fault reads and writes all registers.
+// A fault reads the registers anew, so that what is compiled loads for a grant only what the effective mode needs.
 fn access_at(words: &mut [u64], access: Access, address: u64, size: u64) -> Answer
     requires { ⌜ length (now words) ≡ 41 ⌝ }
     ensures { λ r. ⌜ r ≡ accessAt (stateOf (now (words .entry))) access address size .answer ⌝ }

@@ -22,7 +22,8 @@ pub(crate) fn leave(outcome: Outcome, words: &mut [u64]) -> Answer
     outcome.answer
 }
 
-// MRET for the machine level, SRET for the supervisor level. A return stores three words, and only an illegal one moves all registers.
+// MRET for the machine level, SRET for the supervisor level. Done and illegal are apart, so that what is compiled stores
+// mode, pc and mstatus alone for a return.
 fn step_return(words: &mut [u64], level: Level) -> Answer
     requires { ⌜ length (now words) ≡ 41 ⌝ }
     ensures { λ r. ⌜ r ≡ onRegisters (stateOf (now (words .entry))) (returnStep level (registersOf (now (words .entry)))) .answer ⌝ }

@@ -3,7 +3,7 @@ use Prim.Native.Nat.{ℕ, _<_}
 use mathlib.Core.Path.{_≡_, refl, sym, ap, subst, _∙_}
 use mathlib.Core.List.{List, _++_}
 use native.Mathlib.Omega.{arith}
-use borrow.Author.Tests.{eq-eqb}
+use borrow.Author.Tests.{eq-eqb, ne-eqb}
 use lib.ListN.{length, set, drop}
 use lib.Seq.{sets, length-sets, sets-eq, set-append-left}
 use Rattle.bits.specs.Lists.{elements}
@@ -39,6 +39,11 @@ module _ (w : List ℕ) (fit : length w ≡ 41) where
   pmp-put : (p : Pmp) → storedPmp p w ≡ sets w 23 (pmpWords p)
   unfolding storedPmp
   pmp-put p = rw (eq-eqb (length w) 41 fit)
+
+-- words of another length stay as they are
+pub registers-unfit : (w : List ℕ) (r : Registers) → (length w ≡ 41 → ⊥) → w ≡ storedRegisters r w
+unfolding storedRegisters
+registers-unfit w r h = rw (ne-eqb (length w) 41 h)
 
 registers-spelt : (r : Registers) (w : List ℕ)
     → stateOf (sets (elements 41 0 w) 0 (registerWords r)) ≡ record { registers = r; pmp = pmpOf (elements 41 0 w) }

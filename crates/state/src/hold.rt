@@ -16,7 +16,7 @@ pub fn words_can_hold(words: &[u64]) -> bool
     }
     let registers = registers::registers_can_hold(registers_at(words));
     let configs = protection::configs_can_hold(words[places::PMPCFG0], words[places::PMPCFG2]);
-    let addresses = protection::addresses_can_hold(&words[25..41]);
+    let addresses = protection::addresses_can_hold(&words[places::PMPADDR0..41]);
     registers & (configs & addresses)
 }
 

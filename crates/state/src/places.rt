@@ -1,4 +1,6 @@
-// Where each register lies among the words, for whoever stores one word alone.
+// Where each register lies among the 41 words.
+pub const MODE: usize = 0;
+
 pub const PC: usize = 1;
 
 pub const MSTATUS: usize = 2;
@@ -10,6 +12,8 @@ pub const MIDELEG: usize = 4;
 pub const MIE: usize = 5;
 
 pub const MIP: usize = 6;
+
+pub const LINES: usize = 7;
 
 pub const MTVEC: usize = 8;
 
@@ -44,3 +48,5 @@ pub const MINSTRET: usize = 22;
 pub const PMPCFG0: usize = 23;
 
 pub const PMPCFG2: usize = 24;
+// pmpaddr15 lies in the last word.
+pub const PMPADDR0: usize = 25;

@@ -35,7 +35,7 @@ pub fn decode(number: u64, a: u64, b: u64) -> Decoded
 }
 
 // Whether there are three words for each step, and each number names one. The loop ends at the first that does not, which also keeps the compiler from
-// unrolling it: most calls ask of one step.
+// unrolling it: `tegrwyllt_step` asks of one step.
 pub fn name_steps(steps: &[u64]) -> bool
     ensures { λ r. ⌜ r ≡ nameSteps (now (steps .entry)) ⌝ }
 {

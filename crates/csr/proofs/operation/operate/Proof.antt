@@ -1,10 +1,11 @@
-use Rattle.csr.proofs.OperateLaws.{unfit, stores, reads}
+use Rattle.state.proofs.SliceLaws.{registers-unfit}
+use Rattle.csr.proofs.OperateLaws.{stores, reads}
 use borrow.Author.Needs.{needs}
 use Rattle.csr.proofs.operation.operate.Statement.{statement}
 use Rattle.csr.proofs.operation.operate.Tie as tie
 
 returns : tie.Need-returns
-returns c = unfit _ _ (c .if1 .taken)
+returns c = registers-unfit _ _ (c .if1 .taken)
 
 returns-2 : tie.Need-returns-2
 returns-2 c =
