@@ -2,9 +2,11 @@
 //!
 //! `bench [ROUNDS]`: how many rounds there are, the best of which counts.
 //! `bench lines COUNT`: what `step_speed 0 COUNT` must write.
+//! `bench count WORK CONTENDER TIMES`: one contender's work alone.
 
 mod checksum;
 mod contest;
+mod count;
 mod mixes;
 mod processor;
 mod queries;
@@ -23,8 +25,12 @@ fn main() -> ExitCode {
     let done = match words.as_slice() {
         [] => report(DEFAULT_ROUNDS),
         ["lines", count] => lines(count),
+        ["count", work, contender, times] => count::count(work, contender, times),
         [rounds] => rounds.parse().map_err(Into::into).and_then(report),
-        _ => Err("usage: bench [ROUNDS] | bench lines COUNT".into()),
+        _ => {
+            Err("usage: bench [ROUNDS] | bench lines COUNT | bench count WORK CONTENDER TIMES"
+                .into())
+        }
     };
     match done {
         Ok(()) => ExitCode::SUCCESS,
@@ -56,15 +62,16 @@ fn ratio(product: f64, rust: f64) -> String {
 
 fn report_steps(rounds: u32) -> Result<(), Box<dyn Error>> {
     println!(
-        "| Steps | Rust | tegrwyllt_step | tegrwyllt_run, {} steps | Hart::step |",
+        "| Steps | Rust | Rust, by value | tegrwyllt_step | tegrwyllt_run, {} steps | Hart::step |",
         steps::BATCH
     );
-    println!("|---|---|---|---|---|");
+    println!("|---|---|---|---|---|---|");
     for row in steps::rows(rounds)? {
         println!(
-            "| {} | {:.0} | {} | {} | {} |",
+            "| {} | {:.0} | {} | {} | {} | {} |",
             row.name,
             row.rust,
+            ratio(row.by_value, row.rust),
             ratio(row.step, row.rust),
             ratio(row.run, row.rust),
             ratio(row.method, row.rust),

@@ -3,19 +3,46 @@
 use std::hint::black_box;
 
 use reference::capi::{self, Question};
-use reference::{Access, Mode, query};
+use reference::{Access, HART_WORDS, Hart, MAP_WORDS, Map, Mode, query};
 
 use crate::contest::{Work, contest};
 use crate::mixes::setting;
 use crate::processor::here;
 
-const QUESTIONS: usize = 1 << 18;
+/// A multiple of the number of different questions.
+const COUNT: usize = 306 * 857;
+
+/// The first word of an answer that grants.
+const GRANTED: u64 = 3;
 
 /// Nanoseconds a query.
 pub struct Row {
     pub map: f64,
     pub byte_rule: f64,
     pub product: f64,
+}
+
+/// A hart and its map, in both forms, and what is asked.
+pub struct Queries {
+    hart: Hart,
+    map: Map,
+    hart_words: [u64; HART_WORDS],
+    map_words: [u64; MAP_WORDS],
+    questions: Vec<(Mode, Access, Question)>,
+}
+
+/// What the answers come to: how many were granted, and the sum of all words.
+#[derive(Clone, Copy, PartialEq, Eq, Debug, Default)]
+pub struct Tally {
+    granted: u64,
+    sum: u64,
+}
+
+impl Tally {
+    fn add(&mut self, [kind, first, second]: [u64; 3]) {
+        self.granted += u64::from(kind == GRANTED);
+        self.sum += kind + first + second;
+    }
 }
 
 /// Aligned accesses to the bytes of all ranges, in all modes, of all kinds.
@@ -33,37 +60,57 @@ fn questions() -> Vec<(Mode, Access, Question)> {
         .collect()
 }
 
-pub fn row(rounds: u32) -> Row {
-    let (hart, map) = setting();
-    let (hart_words, map_words) = (hart.to_words(), map.to_words());
-    let questions = questions();
-    let asked = || black_box(&questions).iter().cycle().take(QUESTIONS);
-    let by_map = || {
-        asked()
-            .map(|&(mode, access, q)| {
-                query(&hart, &map, mode, access, q.address, q.size).words()[0]
-            })
-            .sum::<u64>()
-    };
-    let by_bytes = || {
+impl Queries {
+    pub fn new() -> Queries {
+        let (hart, map) = setting();
+        let (hart_words, map_words) = (hart.to_words(), map.to_words());
+        Queries { hart, map, hart_words, map_words, questions: questions() }
+    }
+
+    fn asked(&self, count: usize) -> impl Iterator<Item = &(Mode, Access, Question)> {
+        black_box(&self.questions).iter().cycle().take(count)
+    }
+
+    pub fn by_map(&self, count: usize) -> Tally {
+        let mut tally = Tally::default();
+        for &(mode, access, q) in self.asked(count) {
+            let (hart, map) = (black_box(&self.hart), black_box(&self.map));
+            tally.add(query(hart, map, mode, access, q.address, q.size).words());
+        }
+        tally
+    }
+
+    /// The byte rule says of an access whether it is granted, and no more.
+    pub fn by_bytes(&self, count: usize) -> u64 {
         let granted = |&&(mode, access, q): &&(Mode, Access, Question)| {
-            hart.byte_rule(mode.number(), access, q.address, q.size)
+            black_box(&self.hart).byte_rule(mode.number(), access, q.address, q.size)
         };
-        asked().filter(granted).count() as u64
-    };
-    let by_product = || {
+        self.asked(count).filter(granted).count() as u64
+    }
+
+    pub fn by_product(&self, count: usize) -> Tally {
+        let mut tally = Tally::default();
         let mut answer = [0; 3];
-        asked()
-            .map(|&(_, _, question)| {
-                capi::query(&hart_words, &map_words, question, &mut answer);
-                answer[0]
-            })
-            .sum::<u64>()
-    };
-    assert_eq!(by_map(), by_product(), "the product answers queries differently");
-    let mut contenders: [Work<'_>; 3] =
-        [Box::new(|| here(by_map)), Box::new(|| here(by_bytes)), Box::new(|| here(by_product))];
+        for &(_, _, question) in self.asked(count) {
+            let (hart, map) = (black_box(&self.hart_words), black_box(&self.map_words));
+            capi::query(hart, map, question, &mut answer);
+            tally.add(answer);
+        }
+        tally
+    }
+}
+
+pub fn row(rounds: u32) -> Row {
+    let queries = Queries::new();
+    let wanted = queries.by_map(COUNT);
+    assert_eq!(wanted, queries.by_product(COUNT), "the product answers queries differently");
+    assert_eq!(wanted.granted, queries.by_bytes(COUNT), "the byte rule grants others");
+    let mut contenders: [Work<'_>; 3] = [
+        Box::new(|| here(|| queries.by_map(COUNT))),
+        Box::new(|| here(|| queries.by_bytes(COUNT))),
+        Box::new(|| here(|| queries.by_product(COUNT))),
+    ];
     let best = contest(rounds, &mut contenders);
-    let each = |place: usize| best[place].as_secs_f64() * 1e9 / QUESTIONS as f64;
+    let each = |place: usize| best[place].as_secs_f64() * 1e9 / COUNT as f64;
     Row { map: each(0), byte_rule: each(1), product: each(2) }
 }

@@ -1,12 +1,12 @@
-//! Steps: the reference changed in place, the product through its C interface,
-//! and the method `Hart::step` in the Rattle program `step_speed`.
+//! Steps: the reference changed in place and by value, the product through its
+//! C interface, and the method `Hart::step` in the Rattle program `step_speed`.
 
 use std::error::Error;
 use std::hint::black_box;
 use std::process::{Command, Stdio};
 use std::time::Duration;
 
-use reference::{HART_WORDS, Hart, MAP_WORDS, Map, capi, step};
+use reference::{Answer, HART_WORDS, Hart, MAP_WORDS, Map, Step, capi, step};
 
 use crate::checksum::Checksum;
 use crate::contest::{Work, contest};
@@ -23,6 +23,7 @@ const SHORT: u64 = 8;
 pub struct Row {
     pub name: &'static str,
     pub rust: f64,
+    pub by_value: f64,
     pub step: f64,
     pub run: f64,
     pub method: f64,
@@ -35,8 +36,9 @@ pub fn rows(rounds: u32) -> Result<Vec<Row>, Box<dyn Error>> {
 fn row(rounds: u32, mix: &Mix) -> Result<Row, Box<dyn Error>> {
     compare(mix)?;
     let short = mix.count / SHORT;
-    let mut contenders: [Work<'_>; 5] = [
+    let mut contenders: [Work<'_>; 6] = [
         Box::new(|| processor::here(|| in_place(mix, mix.count))),
+        Box::new(|| processor::here(|| by_value(mix, mix.count))),
         Box::new(|| processor::here(|| one_by_one(mix, mix.count))),
         Box::new(|| processor::here(|| in_batches(mix, mix.count))),
         Box::new(|| processor::in_programs(|| by_program(mix, mix.count))),
@@ -47,21 +49,33 @@ fn row(rounds: u32, mix: &Mix) -> Result<Row, Box<dyn Error>> {
     Ok(Row {
         name: mix.name,
         rust: each(best[0], mix.count),
-        step: each(best[1], mix.count),
-        run: each(best[2], mix.count),
-        method: each(best[3].saturating_sub(best[4]), mix.count - short),
+        by_value: each(best[1], mix.count),
+        step: each(best[2], mix.count),
+        run: each(best[3], mix.count),
+        method: each(best[4].saturating_sub(best[5]), mix.count - short),
     })
 }
 
-/// All four must leave and answer the same, also where they are timed.
+/// All must leave and answer the same, also where they are timed.
 fn compare(mix: &Mix) -> Result<(), Box<dyn Error>> {
     let wanted = in_place(mix, mix.count);
-    let found =
-        [one_by_one(mix, mix.count), in_batches(mix, mix.count), by_program(mix, mix.count)];
-    if found != [wanted; 3] {
+    let ways: [fn(&Mix, u64) -> Checksum; 4] = [by_value, one_by_one, in_batches, by_program];
+    let found = ways.map(|way| way(mix, mix.count));
+    if found != [wanted; 4] {
         return Err(format!("{}: {found:?} in place of {wanted:?}", mix.name).into());
     }
     Ok(())
+}
+
+/// A way of stepping through a mix in this program, by its name.
+pub fn way(name: &str) -> Option<fn(&Mix, u64) -> Checksum> {
+    match name {
+        "rust" => Some(in_place),
+        "by-value" => Some(by_value),
+        "step" => Some(one_by_one),
+        "run" => Some(in_batches),
+        _ => None,
+    }
 }
 
 /// The words that a mix starts from, in the product's interface.
@@ -75,6 +89,26 @@ fn in_place(mix: &Mix, count: u64) -> Checksum {
     let mut sum = Checksum::default();
     for &words in endless(mix).take(count as usize) {
         sum.add_answer(step(&mut hart, &mut map, formed(words)).words());
+    }
+    sum.add_left(&hart.to_words(), &map.to_words());
+    sum
+}
+
+/// The form of `Hart::step`: hart and map go in by value, and both come back.
+/// A call stays a call, or the compiler would change them in place again.
+#[inline(never)]
+fn stepped(mut hart: Hart, mut map: Map, next: Step) -> (Hart, Map, Answer) {
+    let answer = step(&mut hart, &mut map, next);
+    (hart, map, answer)
+}
+
+fn by_value(mix: &Mix, count: u64) -> Checksum {
+    let (mut hart, mut map): (Hart, Map) = setting();
+    let mut sum = Checksum::default();
+    for &words in endless(mix).take(count as usize) {
+        let answer;
+        (hart, map, answer) = stepped(hart, map, formed(words));
+        sum.add_answer(answer.words());
     }
     sum.add_left(&hart.to_words(), &map.to_words());
     sum

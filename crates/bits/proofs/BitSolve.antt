@@ -93,7 +93,7 @@ abbrev pub upto : ℕ → (ℕ → Bool) → Bool
 upto zero f = true
 upto (suc n) f = f n && upto n f
 
-upto-sound : (n : ℕ) (f : ℕ → Bool) → upto n f ≡ true → (k : ℕ) → k < n → f k ≡ true
+pub upto-sound : (n : ℕ) (f : ℕ → Bool) → upto n f ≡ true → (k : ℕ) → k < n → f k ≡ true
 upto-sound zero f t k h = absurd (not-suc-le-zero h)
 upto-sound (suc n) f t k h =
     let w = both _ _ t in

@@ -7,7 +7,7 @@ use mathlib.Core.List.{List, [], _∷_, _++_}
 use native.Mathlib.Omega.{arith}
 use native.Mathlib.Numerals.{add-one}
 use lib.ListN.{length, getD, drop, set, drop-of-length-le}
-use lib.Seq.{drop-cons}
+use lib.Seq.{drop-cons, sets}
 use Rattle.bits.specs.Lists.{all, elements}
 use Rattle.bits.proofs.Conjunction.{both, join}
 
@@ -54,3 +54,16 @@ pub set-past : (l : List ℕ) (i v : ℕ) → length l ≤ i → set l i v ≡ l
 set-past [] i v h = refl
 set-past (x ∷ l) zero v h = absurd (omega arith)
 set-past (x ∷ l) (suc i) v h = ap (λ (t : List ℕ). x ∷ t) (set-past l i v (omega arith))
+
+-- ---- a copy of n elements, from number q of one list on to place p of another
+
+-- one element is copied, and n are left
+pub copy-next : (d s : List ℕ) (p q n : ℕ) {p′ q′ m : ℕ} → m ≡ suc n → p′ ≡ p + 1 → q′ ≡ q + 1
+    → sets d p (elements m q s) ≡ sets (set d p (getD s q 0)) p′ (elements n q′ s)
+unfolding elements
+copy-next d s p q n em ep eq = rw (em, ep, eq, add-one p)
+
+-- none is left
+pub copy-end : (d s : List ℕ) (p q : ℕ) {m : ℕ} → m ≡ 0 → sets d p (elements m q s) ≡ d
+unfolding elements
+copy-end d s p q em = rw em

@@ -1,56 +1,50 @@
 -- The access query on words. Assumes nothing.
 use Prim.Native.Nat.{ℕ}
-use mathlib.Core.Path.{_≡_, refl, sym, ap, _∙_}
+use mathlib.Core.Path.{_≡_, sym, ap, _∙_}
 use mathlib.Core.Bool.{Bool, true, false, cond, _&&_}
 use mathlib.Core.List.{List}
 use lib.Dec.{eqb, leb}
-use lib.ListN.{length}
-use borrow.Author.Tests.{eqb-true, le-leb}
+use lib.ListN.{length, getD}
+use borrow.Author.Tests.{eqb-true}
 use Rattle.bits.proofs.Conjunction.{both}
 use Rattle.pmp.specs.declared.Mode.{Mode}
 use Rattle.pmp.specs.declared.Access.{Access}
 use Rattle.pmp.specs.declared.Decision.{Decision}
+use Rattle.pmp.specs.declared.Decision.the-variants.{Refused}
 use Rattle.pmp.specs.Number.{isMode, modeOf}
 use Rattle.steps.specs.Number.{decisionNumbers}
-use Rattle.map.specs.declared.Range.{Range}
-use Rattle.map.specs.declared.Map.{Map}
+use Rattle.protection.specs.Configs.{configsOf}
 use Rattle.map.specs.declared.Found.{Found}
-use Rattle.map.specs.declared.Found.the-variants.{At, Nothing}
 use Rattle.map.specs.Lookup.{findRange, rangesIn}
-use Rattle.map.proofs.LookupLaws.{found-holds}
-use Rattle.map.proofs.QueryLaws.{one-range}
-use Rattle.hart.specs.declared.Hart.{Hart}
-use Rattle.hart.specs.Queries.{queryAnswer}
-use Rattle.state.specs.declared.State.{State}
+use Rattle.map.specs.Query.{foundDecides}
+use Rattle.map.proofs.QueryLaws.{found-queried}
+use Rattle.state.specs.Hold.{canHold}
+use Rattle.state.specs.Words.{stateOf}
 use Rattle.state.specs.Slices.{loaded}
 use Rattle.state.proofs.SliceLaws.{all-loaded}
-use Rattle.hart.specs.Steps.{hartWith}
+use Rattle.hart.specs.Queries.{queryAnswer}
 use Rattle.capi.specs.MapWords.{mapOfWords}
-use Rattle.capi.specs.Calls.{hartOf, fits, accessOf, mapWith, queryable, queryResult, queryAnswered}
+use Rattle.capi.specs.Calls.{hartOf, fits, accessOf, queryable, queryResult, queryAnswered}
 use Rattle.capi.proofs.CallLaws.{fitting}
 
--- a map with the range that was found has the same range there
-with-found : (rs : List Range) (byte : ℕ) (f : Found) → findRange rs byte ≡ f → findRange (rangesIn (mapWith f)) byte ≡ f
-with-found rs byte (At r) e =
-    let h = found-holds rs byte r e in
-    rw (le-leb (r .first) byte (h .0), le-leb byte (r .last) (h .1))
-with-found rs byte Nothing e = refl
+-- refusal 3, or what the range that was found decides, of the state of the words
+module _ (w v : List ℕ) (fit : length w ≡ 41) (mode kind address size : ℕ) {held : Bool} (eh : held ≡ canHold (loaded w)) where
+  can-hold : canHold (stateOf w) ≡ held
+  can-hold = sym (eh ∙ ap canHold (all-loaded w fit))
 
-same-answer : (h : Hart) (m n : Map) (mode : Mode) (access : Access) (address size : ℕ)
-    → findRange (rangesIn m) address ≡ findRange (rangesIn n) address
-    → queryAnswer h m mode access address size ≡ queryAnswer h n mode access address size
-unfolding queryAnswer
-same-answer h m n mode access address size e = rw (one-range (h .state .pmp .cfgs) (h .state .pmp .cfgs) m n mode access address size refl e)
+  pub not-held : held ≡ false → Refused 3 ≡ queryAnswer (hartOf w) (mapOfWords v) (modeOf mode) (accessOf kind) address size
+  unfolding queryAnswer
+  not-held e = rw (can-hold, e)
 
--- a query on the range that was found, of the state of the words
-pub answered : (w v : List ℕ) → length w ≡ 41 → (mode kind address size : ℕ) {s : State} {f : Found} {m : Map} {effective : Mode} {access : Access} {d : Decision}
-    → s ≡ loaded w → f ≡ findRange (rangesIn (mapOfWords v)) address → m ≡ mapWith f → effective ≡ modeOf mode → access ≡ accessOf kind
-    → d ≡ queryAnswer (hartWith s) m effective access address size
-    → d ≡ queryAnswer (hartOf w) (mapOfWords v) (modeOf mode) (accessOf kind) address size
-answered w v fit mode kind address size {f = f} es ef em ee ea ed =
-    ed ∙ (λ j. queryAnswer (hartWith ((es ∙ all-loaded w fit) j)) (em j) (ee j) (ea j) address size)
-    ∙ same-answer (hartOf w) (mapWith f) (mapOfWords v) (modeOf mode) (accessOf kind) address size
-    (with-found (rangesIn (mapOfWords v)) address f (sym ef) ∙ ef)
+  pub answered : held ≡ true → {cfgs : List ℕ} {f : Found} {effective : Mode} {access : Access} {d : Decision} → cfgs ≡ configsOf (getD w 23 0) (getD w 24 0)
+      → f ≡ findRange (rangesIn (mapOfWords v)) address → effective ≡ modeOf mode → access ≡ accessOf kind
+      → d ≡ foundDecides cfgs effective access address size f
+      → d ≡ queryAnswer (hartOf w) (mapOfWords v) (modeOf mode) (accessOf kind) address size
+  unfolding queryAnswer
+  answered e ec ef ee ea ed =
+      ed ∙ (λ j. foundDecides (ec j) (ee j) (ea j) address size (ef j))
+      ∙ found-queried (configsOf (getD w 23 0) (getD w 24 0)) (modeOf mode) (accessOf kind) address size (mapOfWords v)
+      ∙ rw (can-hold, e)
 
 -- ---- the call
 

@@ -3,7 +3,7 @@ use Prim.Native.Nat.{ℕ, _-_, _^_}
 use mathlib.Core.Bool.{Bool, cond, _&&_}
 use mathlib.Core.List.{List, [], _∷_}
 use lib.Dec.{eqb, leb}
-use lib.ListN.{length, replicate}
+use lib.ListN.{length}
 use lib.Seq.{sets}
 use Rattle.pmp.specs.declared.Access.{Access}
 use Rattle.pmp.specs.declared.Access.the-variants.{Fetch, Load, Store}
@@ -13,9 +13,6 @@ use Rattle.steps.specs.Number.{decisionNumbers, refusalOf}
 use Rattle.steps.specs.Decode.{stepsOf, nameSteps}
 use Rattle.state.specs.Words.{wordsOf, stateOf}
 use Rattle.map.specs.declared.Map.{Map}
-use Rattle.map.specs.declared.Found.{Found}
-use Rattle.map.specs.declared.Found.the-variants.{At, Nothing}
-use Rattle.map.specs.Ranges.{range}
 use Rattle.hart.specs.declared.Hart.{Hart}
 use Rattle.hart.specs.declared.Stepped.{Stepped}
 use Rattle.hart.specs.Steps.{hartWith}
@@ -71,15 +68,6 @@ stepCall hart map step a b answer = runCall hart map (step ∷ a ∷ b ∷ []) a
 -- 0 fetch, 1 load, 2 store
 abbrev pub accessOf : ℕ → Access
 accessOf kind = cond (eqb kind 0) Fetch (cond (eqb kind 1) Load Store)
-
--- a map with no range
-abbrev pub emptyMap : Map
-emptyMap = record { count = 0; ranges = replicate 33 (range 0 0 0) }
-
--- a map with one range or none: a query on it answers as on the map in which the range was found
-abbrev pub mapWith : Found → Map
-mapWith (At r) = record { count = 1; ranges = replicate 33 r }
-mapWith Nothing = emptyMap
 
 -- the slices fit; mode is 0, 1 or 3 and kind 0, 1 or 2
 abbrev pub queryable : List ℕ → List ℕ → ℕ → ℕ → List ℕ → Bool

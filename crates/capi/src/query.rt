@@ -1,18 +1,15 @@
 // The access query on words.
 use crate::maps::find;
-use hart::Hart;
-use map::Found;
-use map::Map;
-use map::Range;
 use pmp::Access;
 use pmp::Decision;
+use state::places;
 ghost use mathlib.Core.Path.{_≡_};
 ghost use lib.ListN.{length};
 ghost use Rattle.pmp.specs.Number.{modeOf};
 ghost use Rattle.steps.specs.Number.{decisionNumbers};
 ghost use Rattle.hart.specs.Queries.{queryAnswer};
 ghost use Rattle.capi.specs.MapWords.{mapOfWords};
-ghost use Rattle.capi.specs.Calls.{hartOf, accessOf, mapWith};
+ghost use Rattle.capi.specs.Calls.{hartOf, accessOf};
 
 // The kind of access of a number: 0 is a fetch, 1 a load, and any other a store.
 fn access_of(kind: u64) -> Access
@@ -25,26 +22,7 @@ fn access_of(kind: u64) -> Access
     }
 }
 
-// A map with one range or none. A query reads one range of a map, so this one answers as the map does in which it was found.
-fn map_with(found: Found) -> Map
-    ensures { λ r. ⌜ r ≡ mapWith found ⌝ }
-{
-    match found {
-        Found::At(range) => Map {
-            count: 1,
-            ranges: [range; 33],
-        },
-        Found::Nothing => Map {
-            count: 0,
-            ranges: [Range {
-                first: 0,
-                last: 0,
-                owner: 0,
-            }; 33],
-        },
-    }
-}
-
+// The words are judged and searched as they lie: a state and a map by value would be copied first.
 pub(crate) fn ask(
     hart: &[u64],
     map: &[u64],
@@ -56,16 +34,18 @@ pub(crate) fn ask(
     requires { ⌜ (length (now hart) ≡ 41) × (length (now map) ≡ 100) ⌝ }
     ensures { λ r. ⌜ r ≡ queryAnswer (hartOf (now (hart .entry))) (mapOfWords (now (map .entry))) (modeOf mode) (accessOf kind) address size ⌝ }
 {
-    let given = Hart {
-        state: state::load(hart),
-    };
+    if !state::words_can_hold(hart) {
+        return Decision::Refused(3);
+    }
+    let cfgs = protection::configs_of(hart[places::PMPCFG0], hart[places::PMPCFG2]);
     let found = find(map, address);
-    given.query(
-        map_with(found),
+    map::found_decides(
+        cfgs,
         pmp::mode_of(mode),
         access_of(kind),
         address,
         size,
+        found,
     )
 }
 

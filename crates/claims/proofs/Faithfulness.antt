@@ -19,6 +19,7 @@ use Rattle.steps.specs.declared.Answer.the-variants.{Refused as RefusedAnswer}
 use Rattle.steps.specs.Number.{refusalOf}
 use Rattle.state.specs.Hold.{canHold}
 use Rattle.state.specs.Words.{stateOf}
+use Rattle.state.proofs.Held.{reset-holds}
 use Rattle.map.specs.declared.Map.{Map}
 use Rattle.map.specs.Ranges.{IsMap}
 use Rattle.map.specs.Painting.{rangesOf}
@@ -28,7 +29,7 @@ use Rattle.map.proofs.MapLaws.{is-map, compiled-count, compiled-ranges}
 use Rattle.map.proofs.QueryLaws.{query-rule, size-refused, one-range}
 use Rattle.text.specs.Text.{readText}
 use Rattle.engine.specs.Runs.{afterAll}
-use Rattle.engine.proofs.Holds.{reset-holds, after-holds}
+use Rattle.engine.proofs.Holds.{after-holds}
 use Rattle.hart.specs.declared.Hart.{Hart}
 use Rattle.hart.specs.declared.Mapped.{Mapped}
 use Rattle.hart.specs.declared.Stepped.{Stepped}

@@ -2,46 +2,37 @@
 use registers::Registers;
 use steps::Operation;
 ghost use mathlib.Core.Path.{_≡_};
-ghost use Rattle.csr.specs.Permit.{presentMachine, presentSupervisor, present, attemptsWrite, counterHidden, illegal};
+ghost use Prim.Native.Nat.{ℕ, _+_, _*_, _<_};
+ghost use Rattle.bits.specs.Mask.{testBit};
+ghost use Rattle.csr.specs.Permit.{present, attemptsWrite, counterHidden, illegal};
 
-fn is_present_machine(n: u64) -> bool
-    ensures { λ r. ⌜ r ≡ presentMachine n ⌝ }
+// The sixteen numbers from 16 * row on, a bit for each that is present: one look in place of a test for each range of numbers.
+fn present_row(row: u64) -> u64
+    ensures { λ bits. ⌜ ((i : ℕ) → i < 16 → testBit bits i ≡ present (16 * row + i)) ⌝ }
 {
-    let information = (0xF11 <= n) & (n <= 0xF15);
-    let setup = (0x300 <= n) & (n <= 0x306);
-    let environment = n == 0x30A;
-    let inhibit = n == 0x320;
-    let events = (0x323 <= n) & (n <= 0x33F);
-    let handling = (0x340 <= n) & (n <= 0x344);
-    let pmpcfg0 = n == 0x3A0;
-    let pmpcfg2 = n == 0x3A2;
-    let pmpaddr = (0x3B0 <= n) & (n <= 0x3BF);
-    let cycle = n == 0xB00;
-    let counters = (0xB02 <= n) & (n <= 0xB1F);
-    information
-        | (setup
-            | (environment
-                | (inhibit
-                    | (events
-                        | (handling | (pmpcfg0 | (pmpcfg2 | (pmpaddr | (cycle | counters)))))))))
-}
-
-fn is_present_supervisor(n: u64) -> bool
-    ensures { λ r. ⌜ r ≡ presentSupervisor n ⌝ }
-{
-    let status = n == 0x100;
-    let setup = (0x104 <= n) & (n <= 0x106);
-    let environment = n == 0x10A;
-    let handling = (0x140 <= n) & (n <= 0x144);
-    let translation = n == 0x180;
-    status | (setup | (environment | (handling | translation)))
+    match row {
+        0x10 => 0x0471,
+        0x14 => 0x001F,
+        0x18 => 0x0001,
+        0x30 => 0x047F,
+        0x32 => 0xFFF9,
+        0x33 => 0xFFFF,
+        0x34 => 0x001F,
+        0x3A => 0x0005,
+        0x3B => 0xFFFF,
+        0xB0 => 0xFFFD,
+        0xB1 => 0xFFFF,
+        0xC0 => 0xFFFD,
+        0xC1 => 0xFFFF,
+        0xF1 => 0x003E,
+        _ => 0,
+    }
 }
 
 fn is_present(n: u64) -> bool
     ensures { λ r. ⌜ r ≡ present n ⌝ }
 {
-    let user = (n == 0xC00) | ((0xC02 <= n) & (n <= 0xC1F));
-    is_present_machine(n) | (is_present_supervisor(n) | user)
+    (present_row(n / 16) >> (n % 16)) % 2 == 1
 }
 
 // Every operation but a read is a write attempt, even with operand 0.

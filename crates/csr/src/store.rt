@@ -1,8 +1,11 @@
 // What a write stores.
-use registers::Registers;
 use registers::fields;
 use registers::masks;
+use state::places;
 ghost use mathlib.Core.Path.{_≡_};
+ghost use lib.ListN.{length};
+ghost use Rattle.state.specs.Words.{registersOf};
+ghost use Rattle.state.specs.Slices.{storedRegisters};
 ghost use Rattle.csr.specs.Store.{statusWritten, tvecWritten, registersWritten};
 
 // mstatus: MPP written 2 keeps its old field.
@@ -24,120 +27,40 @@ fn tvec_written(old: u64, value: u64) -> u64
     if value % 4 < 2 { value } else { old }
 }
 
-// The registers after a write of any value to any number.
-pub(crate) fn write(r: Registers, number: u64, value: u64) -> Registers
-    ensures { λ after. ⌜ after ≡ registersWritten r number value ⌝ }
+// A write of any value to any number, in the words where they lie: each number stores to one word at most, and no other moves.
+pub(crate) fn write(words: &mut [u64], number: u64, value: u64)
+    requires { ⌜ length (now words) ≡ 41 ⌝ }
+    ensures { λ _. ⌜ now (words .exit) ≡ storedRegisters (registersWritten (registersOf (now (words .entry))) number value) (now (words .entry)) ⌝ }
 {
-    let mut w = r;
     match number {
-        0x100 => {
-            w.mstatus = (r.mstatus & !masks::SSTATUS) | (value & masks::SSTATUS);
-            w
-        }
-        0x104 => {
-            let mideleg = r.interrupts.mideleg;
-            let mie = (r.interrupts.mie & !mideleg) | (value & mideleg);
-            w.interrupts.mie = mie;
-            w
-        }
-        0x105 => {
-            let tvec = tvec_written(r.supervisor.tvec, value);
-            w.supervisor.tvec = tvec;
-            w
-        }
-        0x106 => {
-            let counteren = value & masks::COUNTERS;
-            w.supervisor.counteren = counteren;
-            w
-        }
-        0x140 => {
-            w.supervisor.scratch = value;
-            w
-        }
-        0x141 => {
-            let epc = value - value % 4;
-            w.supervisor.epc = epc;
-            w
-        }
-        0x142 => {
-            let cause = value & masks::CAUSE;
-            w.supervisor.cause = cause;
-            w
-        }
-        0x143 => {
-            w.supervisor.tval = value;
-            w
-        }
+        0x100 => words[places::MSTATUS] = (words[places::MSTATUS] & !masks::SSTATUS)
+            | (value & masks::SSTATUS),
+        0x104 => words[places::MIE] = (words[places::MIE] & !words[places::MIDELEG])
+            | (value & words[places::MIDELEG]),
+        0x105 => words[places::STVEC] = tvec_written(words[places::STVEC], value),
+        0x106 => words[places::SCOUNTEREN] = value & masks::COUNTERS,
+        0x140 => words[places::SSCRATCH] = value,
+        0x141 => words[places::SEPC] = value - value % 4,
+        0x142 => words[places::SCAUSE] = value & masks::CAUSE,
+        0x143 => words[places::STVAL] = value,
         0x144 => {
-            let delegated = r.interrupts.mideleg & 0x2;
-            let mip = (r.interrupts.mip & !delegated) | (value & delegated);
-            w.interrupts.mip = mip;
-            w
+            let delegated = words[places::MIDELEG] & 0x2;
+            words[places::MIP] = (words[places::MIP] & !delegated) | (value & delegated);
         }
-        0x300 => {
-            w.mstatus = status_written(r.mstatus, value);
-            w
-        }
-        0x302 => {
-            w.medeleg = value & masks::MEDELEG;
-            w
-        }
-        0x303 => {
-            let mideleg = value & masks::MIDELEG;
-            w.interrupts.mideleg = mideleg;
-            w
-        }
-        0x304 => {
-            let mie = value & masks::MIE;
-            w.interrupts.mie = mie;
-            w
-        }
-        0x305 => {
-            let tvec = tvec_written(r.machine.tvec, value);
-            w.machine.tvec = tvec;
-            w
-        }
-        0x306 => {
-            let counteren = value & masks::COUNTERS;
-            w.machine.counteren = counteren;
-            w
-        }
-        0x320 => {
-            let mcountinhibit = value & masks::COUNTERS;
-            w.counters.mcountinhibit = mcountinhibit;
-            w
-        }
-        0x340 => {
-            w.machine.scratch = value;
-            w
-        }
-        0x341 => {
-            let epc = value - value % 4;
-            w.machine.epc = epc;
-            w
-        }
-        0x342 => {
-            let cause = value & masks::CAUSE;
-            w.machine.cause = cause;
-            w
-        }
-        0x343 => {
-            w.machine.tval = value;
-            w
-        }
-        0x344 => {
-            let mip = value & masks::MIP;
-            w.interrupts.mip = mip;
-            w
-        }
-        0xB00 => {
-            w.counters.mcycle = value;
-            w
-        }
-        0xB02 => {
-            w.counters.minstret = value;
-            w
-        }
-        _ => r,
+        0x300 => words[places::MSTATUS] = status_written(words[places::MSTATUS], value),
+        0x302 => words[places::MEDELEG] = value & masks::MEDELEG,
+        0x303 => words[places::MIDELEG] = value & masks::MIDELEG,
+        0x304 => words[places::MIE] = value & masks::MIE,
+        0x305 => words[places::MTVEC] = tvec_written(words[places::MTVEC], value),
+        0x306 => words[places::MCOUNTEREN] = value & masks::COUNTERS,
+        0x320 => words[places::MCOUNTINHIBIT] = value & masks::COUNTERS,
+        0x340 => words[places::MSCRATCH] = value,
+        0x341 => words[places::MEPC] = value - value % 4,
+        0x342 => words[places::MCAUSE] = value & masks::CAUSE,
+        0x343 => words[places::MTVAL] = value,
+        0x344 => words[places::MIP] = value & masks::MIP,
+        0xB00 => words[places::MCYCLE] = value,
+        0xB02 => words[places::MINSTRET] = value,
+        _ => {}
     }
 }

@@ -1,12 +1,12 @@
 -- Every step keeps a state that a hart can hold. Assumes nothing.
 use Prim.Native.Nat.{ℕ, _<_}
-use mathlib.Core.Path.{_≡_, refl}
-use mathlib.Core.Bool.{Bool, true, cond, _||_}
+use mathlib.Core.Path.{_≡_}
+use mathlib.Core.Bool.{true, cond, _||_}
 use mathlib.Core.List.{List}
 use mathlib.Core.Logic.{⊎-elim}
 use native.Mathlib.Omega.{arith}
 use lib.Dec.{ltb}
-use Rattle.bits.proofs.Conjunction.{both, join, by-test, choose}
+use Rattle.bits.proofs.Conjunction.{both, by-test, choose}
 use Rattle.bits.proofs.FoldLaws.{fold-keeps}
 use Rattle.pmp.specs.declared.Access.{Access}
 use Rattle.pmp.specs.declared.Access.the-variants.{Fetch, Load, Store}
@@ -22,14 +22,14 @@ use Rattle.registers.specs.declared.Registers.{Registers}
 use Rattle.registers.specs.Hold.{registersHoldable}
 use Rattle.registers.specs.Update.{withPc}
 use Rattle.registers.specs.Effective.{effectiveMode}
-use Rattle.registers.proofs.Held.{held, reset-held}
+use Rattle.registers.proofs.Held.{held}
 use Rattle.protection.specs.declared.Pmp.{Pmp}
 use Rattle.protection.specs.Hold.{pmpHoldable}
 use Rattle.protection.specs.Read.{isPmp, pmpRead}
-use Rattle.protection.proofs.Held.{reset-pmp-held}
 use Rattle.protection.proofs.WriteKept.{pmp-written-kept}
 use Rattle.state.specs.declared.State.{State}
-use Rattle.state.specs.Hold.{canHold, resetState}
+use Rattle.state.specs.Hold.{canHold}
+use Rattle.state.proofs.Held.{hold, reset-holds}
 use Rattle.csr.specs.Permit.{illegal, attemptsWrite}
 use Rattle.csr.specs.Show.{registerRead}
 use Rattle.csr.specs.Operate.{operated, registersOperated}
@@ -57,13 +57,6 @@ use Rattle.engine.specs.Runs.{stateAfter, afterAll}
 -- the state that an effect leaves can be held
 abbrev pub Holds : Effect → Type 0
 Holds e = canHold (e .state) ≡ true
-
-hold : (s : State) → registersHoldable (s .registers) ≡ true → pmpHoldable (s .pmp) ≡ true → canHold s ≡ true
-unfolding canHold
-hold s p q = join (registersHoldable (s .registers)) (pmpHoldable (s .pmp)) p q
-
-pub reset-holds : canHold resetState ≡ true
-reset-holds = hold resetState reset-held reset-pmp-held
 
 cause-bound : (access : Access) → faultCause access < 64
 cause-bound Fetch = omega arith

@@ -3,7 +3,8 @@ use Prim.Native.Nat.{ℕ, _≤_, _<_}
 use mathlib.Core.Path.{_≡_, refl, sym, ap, _∙_}
 use mathlib.Core.Bool.{Bool, true, false, cond, not}
 use mathlib.Core.List.{List}
-use lib.ListN.{length}
+use native.Mathlib.Omega.{arith}
+use lib.ListN.{length, set}
 use borrow.Author.Tests.{lt-ltb, le-ltb}
 use Rattle.bits.specs.Lists.{elements}
 use Rattle.pmp.specs.declared.Mode.{Mode}
@@ -11,9 +12,10 @@ use Rattle.pmp.specs.declared.Access.{Access}
 use Rattle.pmp.specs.declared.Decision.{Decision}
 use Rattle.pmp.specs.Rule.{checked}
 use Rattle.steps.specs.declared.Operation.{Operation}
+use Rattle.steps.specs.declared.Level.{Level}
 use Rattle.steps.specs.declared.Event.{Event}
 use Rattle.steps.specs.declared.Answer.{Answer}
-use Rattle.steps.specs.declared.Answer.the-variants.{DoneValue, Refused}
+use Rattle.steps.specs.declared.Answer.the-variants.{Done, DoneValue, Refused}
 use Rattle.registers.specs.declared.Registers.{Registers}
 use Rattle.registers.specs.Update.{withPc}
 use Rattle.registers.specs.Effective.{effectiveMode}
@@ -27,16 +29,16 @@ use Rattle.state.specs.declared.State.{State}
 use Rattle.state.specs.Hold.{resetState}
 use Rattle.state.specs.Words.{wordsOf, registersOf, pmpOf, stateOf}
 use Rattle.state.specs.Slices.{loadedRegisters, loadedPmp, storedRegisters, storedPmp}
-use Rattle.state.proofs.SliceLaws.{registers-loaded, pmp-loaded, registers-stored, registers-length, pmp-stored}
+use Rattle.state.proofs.SliceLaws.{registers-loaded, pmp-loaded, registers-stored, registers-length, pmp-stored, pmp-length, one-stored}
 use Rattle.csr.specs.Permit.{illegal}
 use Rattle.csr.specs.Show.{registerRead}
 use Rattle.csr.specs.Operate.{registersOperated}
 use Rattle.trap.specs.declared.Outcome.{Outcome}
 use Rattle.trap.specs.Enter.{raised, illegalInstruction}
-use Rattle.trap.specs.Return.{nextPc}
+use Rattle.trap.specs.Return.{returned, mayReturn, returnStep, nextPc}
 use Rattle.trap.specs.Events.{eventStep}
 use Rattle.engine.specs.declared.Taken.{Taken}
-use Rattle.engine.specs.Effects.{Effect, refused, withRegisters, onRegisters, pmpOperated, csrCompleted, protectionStep, registerStep, csrStep, accessDecided, accessAt, eventEffect}
+use Rattle.engine.specs.Effects.{Effect, refused, withRegisters, onRegisters, pmpOperated, protectionStep, registerStep, csrStep, accessDecided, accessAt, eventEffect}
 use Rattle.engine.specs.Taking.{taken}
 
 -- an answer, and the state of the words that are left: those of an effect
@@ -60,6 +62,12 @@ pub reset-back : stateOf (wordsOf resetState) ≡ resetState
 unfolding wordsOf elements packed unpacked configsOf
 reset-back = refl
 
+-- pc, stored where it lies
+pc-stored : (w : List ℕ) → length w ≡ 41 → (pc : ℕ) → stateOf (set w 1 pc) ≡ withRegisters (stateOf w) (withPc (registersOf w) pc)
+pc-stored w fit pc =
+    let r = withPc (registersOf w) pc in
+    ap stateOf (one-stored w fit 1 pc r (omega arith) refl) ∙ registers-stored w fit r
+
 module _ (w : List ℕ) (fit : length w ≡ 41) where
   -- registers that were read, an outcome that a rule made of them, and what was left of it
   pub left : (rule : Registers → Outcome) {r : Registers} {o : Outcome} {a : Answer} {x : State} → r ≡ loadedRegisters w → o ≡ rule r
@@ -67,6 +75,26 @@ module _ (w : List ℕ) (fit : length w ≡ 41) where
   left rule er eo ea ex =
       let e = eo ∙ ap rule (er ∙ registers-loaded w fit) in
       (ea ∙ ap (λ (o : Outcome). o .answer) e, ex ∙ ap (λ (o : Outcome). withRegisters (stateOf w) (o .registers)) e)
+
+  -- a return, from whether the mode may and what was stored
+  module _ (level : Level) {r : Registers} (er : r ≡ loadedRegisters w) {b : Bool} (eb : b ≡ mayReturn level r) where
+    may : mayReturn level (registersOf w) ≡ b
+    may = sym (eb ∙ ap (mayReturn level) (er ∙ registers-loaded w fit))
+
+    pub return-illegal : b ≡ false → {again : Registers} → again ≡ loadedRegisters w → {o : Outcome} {a : Answer} {x : State} → o ≡ illegalInstruction again
+        → a ≡ o .answer → x ≡ withRegisters (stateOf w) (o .registers) → Does (onRegisters (stateOf w) (returnStep level (registersOf w))) a x
+    unfolding returnStep
+    return-illegal e el eo ea ex = rw (may, e) (left illegalInstruction el eo ea ex)
+
+    pub return-done : b ≡ true → {again : Registers} → again ≡ loadedRegisters w → {after : Registers} → after ≡ returned level again → {x : List ℕ}
+        → x ≡ storedRegisters after w → Does (onRegisters (stateOf w) (returnStep level (registersOf w))) Done (stateOf x)
+    unfolding returnStep
+    return-done e el {after} ea ex =
+        rw (may, e) (
+          refl,
+          ap stateOf ex ∙ registers-stored w fit after
+              ∙ ap (withRegisters (stateOf w)) (ea ∙ ap (returned level) (el ∙ registers-loaded w fit)),
+        )
 
   -- an event, from what its rule made of the registers
   pub event-does : {event named : Event} → event ≡ named → {r : Registers} {o : Outcome} {a : Answer} {x : State} → r ≡ loadedRegisters w
@@ -91,9 +119,9 @@ module _ (w : List ℕ) (fit : length w ≡ 41) where
         let e = ap (accessDecided (stateOf w) address) (sym q) ∙ decided-is in
         (k .0 ∙ ap (λ (y : Effect). y .answer) e, k .1 ∙ ap (λ (y : Effect). y .state) e)
 
-    pub fault-does : {cause : ℕ} → d ≡ Decision.Fault cause → {o : Outcome} {a : Answer} {x : State} → o ≡ raised r cause address → a ≡ o .answer
-        → x ≡ withRegisters (stateOf w) (o .registers) → Does (accessAt (stateOf w) access address size) a x
-    fault-does {cause} q eo ea ex = access-does q (left (λ (y : Registers). raised y cause address) er eo ea ex)
+    pub fault-does : {cause : ℕ} → d ≡ Decision.Fault cause → {again : Registers} → again ≡ loadedRegisters w → {o : Outcome} {a : Answer} {x : State}
+        → o ≡ raised again cause address → a ≡ o .answer → x ≡ withRegisters (stateOf w) (o .registers) → Does (accessAt (stateOf w) access address size) a x
+    fault-does {cause} q el eo ea ex = access-does q (left (λ (y : Registers). raised y cause address) el eo ea ex)
 
   -- ---- a CSR step
 
@@ -118,12 +146,12 @@ module _ (w : List ℕ) (fit : length w ≡ 41) where
           → Tells (stateOf w) (csrStep (stateOf w) op number operand) t x
       told q k = (k .0 ∙ ap (taken (stateOf w)) (sym q), k .1 ∙ ap (λ (y : Effect). y .state) (sym q))
 
-      pub csr-illegal : b ≡ true → {o : Outcome} {a : Answer} {t : Taken} {x : State} → o ≡ illegalInstruction r → a ≡ o .answer
-          → x ≡ withRegisters (stateOf w) (o .registers) → t ≡ record { answer = a; held = true; remap = false }
+      pub csr-illegal : b ≡ true → {again : Registers} → again ≡ loadedRegisters w → {o : Outcome} {a : Answer} {t : Taken} {x : State}
+          → o ≡ illegalInstruction again → a ≡ o .answer → x ≡ withRegisters (stateOf w) (o .registers) → t ≡ record { answer = a; held = true; remap = false }
           → Tells (stateOf w) (csrStep (stateOf w) op number operand) t x
-      csr-illegal p eo ea ex et =
+      csr-illegal p el eo ea ex et =
           let i = onRegisters (stateOf w) (illegalInstruction (registersOf w)) in
-          let k = apart-tells (stateOf w) i refl (left illegalInstruction er eo ea ex) in
+          let k = apart-tells (stateOf w) i refl (left illegalInstruction el eo ea ex) in
           told (by-tests (isPmp number) refl ∙ rw p) (et ∙ k .0, k .1)
 
       module _ (legal : b ≡ false) where
@@ -133,37 +161,35 @@ module _ (w : List ℕ) (fit : length w ≡ 41) where
             → Tells (stateOf w) (csrStep (stateOf w) op number operand) t x
         csr-protection e p et ex = told (by-tests true (sym e ∙ p) ∙ rw legal) (et, ex)
 
-        pub csr-register : {c : Bool} → c ≡ isPmp number → c ≡ false → {old : ℕ} → old ≡ registerRead r number → {after : Registers}
-            → after ≡ registersOperated r op number operand old → {pc : ℕ} → pc ≡ nextPc r → {t : Taken}
-            → t ≡ record { answer = DoneValue old; held = true; remap = false } → {x : List ℕ} → x ≡ storedRegisters (withPc after pc) w
-            → Tells (stateOf w) (csrStep (stateOf w) op number operand) t (stateOf x)
-        csr-register e p {old} eo {after} ea {pc} ep et ex =
-            let g = er ∙ registers-loaded w fit in
+        pub csr-register : {c : Bool} → c ≡ isPmp number → c ≡ false → {again : Registers} → again ≡ loadedRegisters w → {old : ℕ} → old ≡ registerRead again number
+            → {pc : ℕ} → pc ≡ nextPc (registersOf w) → {v : List ℕ} → v ≡ storedRegisters (registersOperated (loadedRegisters w) op number operand old) w → {t : Taken}
+            → t ≡ record { answer = DoneValue old; held = true; remap = false }
+            → Tells (stateOf w) (csrStep (stateOf w) op number operand) t (stateOf (set v 1 pc))
+        csr-register e p el {old} eo {pc} ep {v} ev et =
             let s = stateOf w in
-            let o : old ≡ registerRead (registersOf w) number = eo ∙ ap (λ (y : Registers). registerRead y number) g in
-            let f : after ≡ registersOperated (registersOf w) op number operand (registerRead (registersOf w) number) =
-            ea ∙ (λ j. registersOperated (g j) op number operand (o j)) in
+            let g = registers-loaded w fit in
+            let o : old ≡ registerRead (registersOf w) number = eo ∙ ap (λ (y : Registers). registerRead y number) (el ∙ g) in
+            let f = registersOperated (loadedRegisters w) op number operand old in
+            let z : stateOf v ≡ withRegisters s (registersOperated (registersOf w) op number operand (registerRead (registersOf w) number)) =
+            ap stateOf ev ∙ registers-stored w fit f ∙ (λ j. withRegisters s (registersOperated (g j) op number operand (o j))) in
             told (by-tests false (sym e ∙ p) ∙ rw legal) (
               et ∙ ap (λ (y : ℕ). record { answer = DoneValue y; held = true; remap = false }) o ∙ apart-taken s (registerStep s op number operand) refl,
-              ap stateOf ex ∙ registers-stored w fit (withPc after pc)
-                  ∙ (λ j. withRegisters s (withPc (f j) ((ep ∙ ap nextPc g) j))),
+              pc-stored v (ap length ev ∙ registers-length w fit f) pc ∙ (λ j. withRegisters (z j) (withPc (z j .registers) (ep j))),
             )
 
     -- a step on a protection register, from what was read, made of it and written
     pub protection-done : {p : Pmp} → p ≡ loadedPmp w → {old : ℕ} → old ≡ pmpRead p number → {after : Pmp}
-        → after ≡ pmpOperated p op number operand old → Arrays after → {r : Registers} → r ≡ loadedRegisters w → {pc : ℕ} → pc ≡ nextPc r
-        → {v x : List ℕ} → v ≡ storedRegisters (withPc r pc) w → x ≡ storedPmp after v → {same : Bool} → same ≡ samePmp p after
-        → Tells (stateOf w) (protectionStep (stateOf w) op number operand) (record { answer = DoneValue old; held = true; remap = not same }) (stateOf x)
-    protection-done {p} ep {old} eo {after} ea t {r} er {pc} epc {v} ev ex es =
+        → after ≡ pmpOperated p op number operand old → Arrays after → {pc : ℕ} → pc ≡ nextPc (registersOf w)
+        → {v : List ℕ} → v ≡ storedPmp after w → {same : Bool} → same ≡ samePmp p after
+        → Tells (stateOf w) (protectionStep (stateOf w) op number operand) (record { answer = DoneValue old; held = true; remap = not same }) (stateOf (set v 1 pc))
+    protection-done {p} ep {old} eo {after} ea t {pc} epc {v} ev es =
         let q = ep ∙ pmp-loaded w fit in
-        let g = er ∙ registers-loaded w fit in
-        let s = stateOf w in
         let o : old ≡ pmpRead (pmpOf w) number = eo ∙ ap (λ (y : Pmp). pmpRead y number) q in
         let f : after ≡ pmpOperated (pmpOf w) op number operand (pmpRead (pmpOf w) number) =
         ea ∙ (λ j. pmpOperated (q j) op number operand (o j)) in
-        let z : stateOf v ≡ withRegisters s (withPc r pc) = ap stateOf ev ∙ registers-stored w fit (withPc r pc) in (
+        let z : stateOf v ≡ record { registers = registersOf w; pmp = after } = ap stateOf ev ∙ pmp-stored w fit after t in (
           (λ j. record { answer = DoneValue (o j); held = true; remap = not ((es ∙ (λ i. samePmp (q i) (f i))) j) }),
-          ap stateOf ex ∙ pmp-stored v (ap length ev ∙ registers-length w fit (withPc r pc)) after t
-              ∙ (λ j. record { registers = z j .registers; pmp = after })
-              ∙ (λ j. record { registers = withPc (g j) ((epc ∙ ap nextPc g) j); pmp = f j }),
+          pc-stored v (ap length ev ∙ pmp-length w fit after) pc
+              ∙ (λ j. withRegisters (z j) (withPc (z j .registers) pc))
+              ∙ (λ j. record { registers = withPc (registersOf w) (epc j); pmp = f j }),
         )

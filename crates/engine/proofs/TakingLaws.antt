@@ -8,11 +8,12 @@ use Rattle.protection.specs.Same.{samePmp}
 use Rattle.protection.proofs.SameLaws.{same-pmp-refl}
 use Rattle.state.specs.declared.State.{State}
 use Rattle.state.specs.Hold.{canHold}
+use Rattle.state.proofs.Held.{reset-holds}
 use Rattle.engine.specs.declared.Taken.{Taken}
 use Rattle.engine.specs.Effects.{Effect, refused, effect, isReset, ruledBy}
 use Rattle.engine.specs.Taking.{effectTaken, stepTaken}
 use Rattle.engine.proofs.EffectLaws.{only-reset}
-use Rattle.engine.proofs.Holds.{reset-holds, effect-holds}
+use Rattle.engine.proofs.Holds.{effect-holds}
 
 module _ (held : Bool) (s : State) (step : Step) {reset : Bool} (e : reset ≡ isReset step) where
   pub taken-on : (reset || held) ≡ true → (effectTaken s step ≡ stepTaken held s step) × (effect s step .state ≡ ruledBy held s step .state)

@@ -4,8 +4,8 @@ use crate::events::leave;
 use protection::Pmp;
 use state::load_pmp;
 use state::load_registers;
+use state::places;
 use state::store_pmp;
-use state::store_registers;
 use steps::Answer;
 use steps::Operation;
 ghost use mathlib.Core.Path.{_≡_};
@@ -36,10 +36,9 @@ fn step_protection(words: &mut [u64], operation: Operation, number: u64, operand
     let old = protection::read_register(before, number);
     let after = operate_pmp(before, operation, number, operand, old);
     protection::typed(after);
-    let mut registers = load_registers(words);
-    registers.pc = trap::returns::next_pc(registers.pc);
-    store_registers(registers, words);
+    let pc = trap::returns::next_pc(words[places::PC]);
     store_pmp(after, words);
+    words[places::PC] = pc;
     Taken {
         answer: Answer::DoneValue(old),
         held: true,
@@ -58,6 +57,7 @@ fn apart(answer: Answer) -> Taken
     }
 }
 
+// The registers are read anew for each use, so that no word moves that is not needed.
 pub(crate) fn step_csr(words: &mut [u64], operation: Operation, number: u64, operand: u64) -> Taken
     requires { ⌜ length (now words) ≡ 41 ⌝ }
     ensures { λ r. ⌜ r ≡ taken (stateOf (now (words .entry))) (csrStep (stateOf (now (words .entry))) operation number operand) ⌝ }
@@ -66,16 +66,18 @@ pub(crate) fn step_csr(words: &mut [u64], operation: Operation, number: u64, ope
     if 4095 < number {
         return apart(Answer::Refused(2));
     }
-    let registers = load_registers(words);
-    if csr::is_illegal(registers, operation, number) {
-        return apart(leave(trap::enter::illegal_instruction(registers), words));
+    if csr::is_illegal(load_registers(words), operation, number) {
+        return apart(leave(
+            trap::enter::illegal_instruction(load_registers(words)),
+            words,
+        ));
     }
     if protection::is_pmp(number) {
         return step_protection(words, operation, number, operand);
     }
-    let old = csr::read(registers, number);
-    let mut changed = csr::operate(registers, operation, number, operand, old);
-    changed.pc = trap::returns::next_pc(registers.pc);
-    store_registers(changed, words);
+    let old = csr::read(load_registers(words), number);
+    let pc = trap::returns::next_pc(words[places::PC]);
+    csr::operate(words, operation, number, operand, old);
+    words[places::PC] = pc;
     apart(Answer::DoneValue(old))
 }

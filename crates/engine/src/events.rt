@@ -7,8 +7,9 @@ use steps::Level;
 use trap::Outcome;
 ghost use mathlib.Core.Path.{_≡_};
 ghost use lib.ListN.{length};
-ghost use Rattle.state.specs.Words.{stateOf};
-ghost use Rattle.engine.specs.Effects.{withRegisters, eventEffect};
+ghost use Rattle.state.specs.Words.{registersOf, stateOf};
+ghost use Rattle.trap.specs.Return.{returnStep};
+ghost use Rattle.engine.specs.Effects.{withRegisters, onRegisters, eventEffect};
 
 // Writes the registers that a step leaves.
 pub(crate) fn leave(outcome: Outcome, words: &mut [u64]) -> Answer
@@ -19,6 +20,26 @@ pub(crate) fn leave(outcome: Outcome, words: &mut [u64]) -> Answer
     let registers = outcome.registers;
     store_registers(registers, words);
     outcome.answer
+}
+
+// MRET for the machine level, SRET for the supervisor level. Done and illegal are apart, so that what is compiled stores
+// mode, pc and mstatus alone for a return.
+fn step_return(words: &mut [u64], level: Level) -> Answer
+    requires { ⌜ length (now words) ≡ 41 ⌝ }
+    ensures { λ r. ⌜ r ≡ onRegisters (stateOf (now (words .entry))) (returnStep level (registersOf (now (words .entry)))) .answer ⌝ }
+    ensures { λ _. ⌜ stateOf (now (words .exit)) ≡ onRegisters (stateOf (now (words .entry))) (returnStep level (registersOf (now (words .entry)))) .state ⌝ }
+{
+    if !trap::returns::may_return(level, load_registers(words)) {
+        return leave(
+            trap::enter::illegal_instruction(load_registers(words)),
+            words,
+        );
+    }
+    store_registers(
+        trap::returns::return_registers(level, load_registers(words)),
+        words,
+    );
+    Answer::Done
 }
 
 // Each arm reads the registers for itself, so that it moves only those that it needs.
@@ -42,14 +63,8 @@ pub(crate) fn step_event(words: &mut [u64], event: Event) -> Answer
             trap::interrupt::take_interrupt(load_registers(words)),
             words,
         ),
-        Event::Mret => leave(
-            trap::returns::return_from(Level::Machine, load_registers(words)),
-            words,
-        ),
-        Event::Sret => leave(
-            trap::returns::return_from(Level::Supervisor, load_registers(words)),
-            words,
-        ),
+        Event::Mret => step_return(words, Level::Machine),
+        Event::Sret => step_return(words, Level::Supervisor),
         Event::Wfi => leave(trap::returns::wait(load_registers(words)), words),
         Event::Ecall => leave(trap::enter::environment_call(load_registers(words)), words),
         Event::Ebreak => leave(trap::enter::breakpoint(load_registers(words)), words),

@@ -88,7 +88,7 @@ fn run_steps(words: &mut [u64], steps: &[u64], answers: &mut [u64]) -> bool
     ensures { λ _. ⌜ stateOf (now (words .exit)) ≡ afterAll (stateOf (now (words .entry))) (stepsOf (now (steps .entry))) ⌝ }
     ensures { λ _. ⌜ now (answers .exit) ≡ sets (now (answers .entry)) 0 (answersOf (stateOf (now (words .entry))) (stepsOf (now (steps .entry)))) ⌝ }
 {
-    let mut held = state::can_hold(state::load(words));
+    let mut held = state::words_can_hold(words);
     let mut remap = false;
     let mut i: usize = 0;
     while i < steps.len() {

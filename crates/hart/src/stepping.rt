@@ -45,8 +45,8 @@ impl Hart {
         ensures { λ r. ⌜ answerNumbers (r .answer) ≡ stepNumbers self map step ⌝ }
     {
         let state = self.state;
-        let held = state::can_hold(state);
         let mut words = state::to_words(state);
+        let held = state::words_can_hold(&words);
         let taken = engine::step(&mut words, held, step);
         let answer = taken.answer;
         let after = state::of_words(words);

@@ -6,15 +6,24 @@ use mathlib.Core.List.{List}
 use native.Mathlib.Omega.{arith}
 use native.Mathlib.Nat.{add-zero, pow-le-pow-right}
 use lib.Dec.{leb, ltb, eqb}
-use borrow.Author.Tests.{leb-true, leb-false, le-leb, lt-leb}
+use borrow.Author.Tests.{eqb-true, leb-true, leb-false, le-leb, lt-leb}
 use lib.ListN.{getD, set}
 use lib.Pow.{pow-add}
 use lib.Seq.{sets}
-use Rattle.lines.specs.Lines.{hexDigit, hexDigits, digitValue, numberAt}
+use Rattle.bits.proofs.BitSolve.{upto-sound}
+use Rattle.lines.specs.Lines.{bytesOf, hexDigit, hexDigits, digitValue, numberAt}
 use Rattle.lines.specs.Places.{hasRoom}
 use Rattle.lines.specs.Fields.{areDigits}
 
 -- ---- writing
+
+-- the bytes of the sixteen digits in order: each number finds its own
+abbrev pub digitBytes : List ℕ
+digitBytes = bytesOf "0123456789abcdef"
+
+pub digit-found : (d : ℕ) → d < 16 → getD digitBytes d 0 ≡ hexDigit d
+unfolding bytesOf
+digit-found d h = eqb-true _ _ (upto-sound 16 (λ k. eqb (getD digitBytes k 0) (hexDigit k)) refl d h)
 
 pub digits-start : (t : List ℕ) (p w : ℕ) → sets t p (hexDigits 16 w) ≡ sets t (p + 0) (hexDigits 16 w)
 digits-start t p w = rw (add-zero p)

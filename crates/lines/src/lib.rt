@@ -48,9 +48,10 @@ fn write_digits(word: u64, text: &mut [u8], place: usize)
     requires { ⌜ place + 16 ≤ length (now text) ⌝ }
     ensures { λ _. ⌜ now (text .exit) ≡ sets (now (text .entry)) place (hexDigits 16 word) ⌝ }
 {
+    let digits = *b"0123456789abcdef";
     let mut j: usize = 0;
     while j < 16 {
-        text[place + j] = hex_digit(word >> (60 - 4 * j));
+        text[place + j] = digits[((word >> (60 - 4 * j)) % 16) as usize];
         j += 1;
     }
 }

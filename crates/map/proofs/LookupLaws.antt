@@ -1,6 +1,6 @@
 -- The range that holds a byte: whether one does, that what is found does, how a loop finds it, and where it is found on a lawful list. Assumes nothing.
 use Prim.Native.Nat.{ℕ, suc, _+_, _≤_, _<_}
-use mathlib.Core.Path.{_≡_, sym, subst, _∙_}
+use mathlib.Core.Path.{_≡_, refl, sym, subst, _∙_}
 use mathlib.Core.Bool.{true, false, cond}
 use mathlib.Core.List.{List, [], _∷_, map}
 use mathlib.Core.Logic.{_⊎_, inl, inr}
@@ -9,12 +9,13 @@ use native.Mathlib.Numerals.{add-one}
 use lib.Dec.{leb}
 use lib.ListN.{length, getD, take, drop, drop-of-length-le, length-map}
 use lib.Seq.{drop-cons, getD-take, length-take-le}
-use borrow.Author.Tests.{le-leb, lt-leb}
+use borrow.Author.Tests.{leb-true, le-leb, lt-leb}
 use Rattle.bits.proofs.Conjunction.{contradiction, not-true-false, both}
 use Rattle.pmp.specs.Entry.{top}
 use Rattle.map.specs.declared.Range.{Range}
+use Rattle.map.specs.declared.Found.{Found}
 use Rattle.map.specs.declared.Found.the-variants.{At, Nothing}
-use Rattle.map.specs.Lookup.{holdsByte, findRange}
+use Rattle.map.specs.Lookup.{holdsByte, findRange, holding}
 use Rattle.map.proofs.Lawful.{less, Lawful, Run, head-run}
 
 pub holds-in : (r : Range) (b : ℕ) → r .first ≤ b → b ≤ r .last → holdsByte r b ≡ true
@@ -26,6 +27,9 @@ holds-before r b x = rw (lt-leb (r .first) b x)
 pub holds-behind : (r : Range) (b : ℕ) → r .last < b → holdsByte r b ≡ false
 holds-behind r b x =
     not-true-false (holdsByte r b) (λ e. contradiction (both (leb (r .first) b) (leb b (r .last)) e .1) (lt-leb b (r .last) x))
+
+pub holds-bounds : (r : Range) (b : ℕ) → holdsByte r b ≡ true → (r .first ≤ b) × (b ≤ r .last)
+holds-bounds r b e = let w = both (leb (r .first) b) (leb b (r .last)) e in (leb-true _ _ (w .0), leb-true _ _ (w .1))
 
 pub found-holds : (rs : List Range) (byte : ℕ) (r : Range) → findRange rs byte ≡ At r → (r .first ≤ byte) × (byte ≤ r .last)
 found-holds [] byte r e = absurd (let z : _≡_ {A = ℕ} 0 1 = cc in omega arith)
@@ -39,6 +43,14 @@ found-holds (s ∷ rs) byte r e = go (less byte (s .first)) (less (s .last) byte
         let q : At s ≡ At r = rw (holds-in s byte x y) at e in
         let p : s ≡ r = cc in
         subst (λ (z : Range). (z .first ≤ byte) × (byte ≤ z .last)) p (x, y)
+
+-- what is found holds the byte
+pub holding-found : (rs : List Range) (byte : ℕ) → holding (findRange rs byte) byte ≡ findRange rs byte
+holding-found rs byte = go (findRange rs byte) refl
+  where
+    go : (f : Found) → findRange rs byte ≡ f → holding f byte ≡ f
+    go (At r) e = let h = found-holds rs byte r e in rw (holds-in r byte (h .0) (h .1))
+    go Nothing e = refl
 
 -- the search from range k on, of the first n
 pub find-step : (n k : ℕ) (rs : List Range) (d : Range) (byte : ℕ) → k < n → n ≤ length rs

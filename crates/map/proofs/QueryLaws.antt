@@ -1,6 +1,6 @@
 -- A query on the compiled map answers as the byte rule does, and it reads one range. Assumes nothing.
 use Prim.Native.Nat.{ℕ, suc, _+_, _-_, _≤_, _<_}
-use mathlib.Core.Path.{_≡_, sym, ap, _∙_}
+use mathlib.Core.Path.{_≡_, sym, _∙_}
 use mathlib.Core.Bool.{true, false}
 use mathlib.Core.List.{List}
 use mathlib.Core.Logic.{_⊎_, inl, inr}
@@ -10,7 +10,6 @@ use borrow.Author.Tests.{le-leb, lt-leb}
 use Rattle.bits.proofs.Conjunction.{contradiction, not-true-false}
 use Rattle.pmp.specs.declared.Mode.{Mode}
 use Rattle.pmp.specs.declared.Access.{Access}
-use Rattle.pmp.specs.declared.Decision.{Decision}
 use Rattle.pmp.specs.declared.Decision.the-variants.{Fault, Refused}
 use Rattle.pmp.specs.Number.{faultCause}
 use Rattle.pmp.specs.Search.{everyByte}
@@ -21,13 +20,13 @@ use Rattle.pmp.proofs.RuleLaws.{none-beyond, some-beyond, beyond-faults, size-b
 use Rattle.pmp.proofs.Owner.{owner-bound, one-owner, two-owners}
 use Rattle.map.specs.declared.Range.{Range}
 use Rattle.map.specs.declared.Map.{Map}
-use Rattle.map.specs.declared.Found.the-variants.{At, Nothing}
+use Rattle.map.specs.declared.Found.the-variants.{At}
 use Rattle.map.specs.Lookup.{holdsByte, findRange, rangesIn}
 use Rattle.map.specs.Painting.{rangesOf}
 use Rattle.map.specs.Compiled.{compiled}
-use Rattle.map.specs.Query.{rangeDecides, queried}
+use Rattle.map.specs.Query.{rangeDecides, queried, foundDecides}
 use Rattle.map.proofs.Lawful.{less}
-use Rattle.map.proofs.LookupLaws.{holds-in, holds-behind, Hit, hit}
+use Rattle.map.proofs.LookupLaws.{holds-in, holds-behind, holding-found, Hit, hit}
 use Rattle.map.proofs.MapLaws.{lawful-ranges, read-back}
 
 -- a range that holds the first byte holds all exactly where it reaches the last
@@ -53,14 +52,10 @@ module _ (cfgs : List ℕ) (mode : Mode) (access : Access) (address size : ℕ) 
   unfolding queried
   reads-range map e h = rw (e, none-beyond top size address h)
 
-  -- the same, of what a program finds
-  pub found-query : (map : Map) (r : Range) (d : Decision) → isSize size ≡ true → address + size ≤ top → findRange (rangesIn map) address ≡ At r
-      → d ≡ rangeDecides cfgs mode access address size (At r) → d ≡ queried cfgs map mode access address size
-  found-query map r d e h f g = g ∙ ap (rangeDecides cfgs mode access address size) (sym f) ∙ sym (reads-range map e h)
-
-  pub unfound-query : (map : Map) → isSize size ≡ true → address + size ≤ top → findRange (rangesIn map) address ≡ Nothing
-      → Refused 7 ≡ queried cfgs map mode access address size
-  unfound-query map e h f = rw (reads-range map e h, f)
+  -- a query is what the range decides that is found in the map
+  pub found-queried : (map : Map) → foundDecides cfgs mode access address size (findRange (rangesIn map) address) ≡ queried cfgs map mode access address size
+  unfolding foundDecides queried
+  found-queried map = rw (holding-found (rangesIn map) address)
 
   pub beyond-query : (map : Map) → isSize size ≡ true → top < address + size → queried cfgs map mode access address size ≡ Fault (faultCause access)
   unfolding queried

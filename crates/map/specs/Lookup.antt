@@ -18,6 +18,11 @@ abbrev pub findRange : List Range → ℕ → Found
 findRange [] byte = Nothing
 findRange (r ∷ rs) byte = cond (holdsByte r byte) (At r) (findRange rs byte)
 
+-- what was found, where it holds the byte
+abbrev pub holding : Found → ℕ → Found
+holding (At r) byte = cond (holdsByte r byte) (At r) Nothing
+holding Nothing byte = Nothing
+
 -- the ranges that a map is read by: a count above 33 is read as 33
 abbrev pub rangesIn : Map → List Range
 rangesIn m = take (min (m .count) 33) (m .ranges)

@@ -14,7 +14,7 @@ use Rattle.pmp.specs.Rule.{none, ownerDecides, isSize}
 use Rattle.map.specs.declared.Map.{Map}
 use Rattle.map.specs.declared.Found.{Found}
 use Rattle.map.specs.declared.Found.the-variants.{At, Nothing}
-use Rattle.map.specs.Lookup.{holdsByte, findRange, rangesIn}
+use Rattle.map.specs.Lookup.{holdsByte, findRange, holding, rangesIn}
 
 -- it faults unless that range holds all bytes, and else the owner decides; refusal 7: no such range, or its owner is not 0 to 15 or "none"
 abbrev pub rangeDecides : List ℕ → Mode → Access → ℕ → ℕ → Found → Decision
@@ -24,11 +24,17 @@ rangeDecides cfgs mode access address size (At r) =
     (Refused 7)
 rangeDecides cfgs mode access address size Nothing = Refused 7
 
--- refusal 1; then a byte at or above 2^56 faults before the map is read; then the lowest-numbered range that holds the first byte
-unfoldable pub queried : List ℕ → Map → Mode → Access → ℕ → ℕ → Decision
-queried cfgs map mode access address size =
+-- refusal 1; then a byte at or above 2^56 faults before a range is read; then the range decides
+abbrev pub decidedBy : List ℕ → Mode → Access → ℕ → ℕ → Found → Decision
+decidedBy cfgs mode access address size found =
     cond (isSize size)
-    (cond (anyByte (leb top) size address)
-    (Fault (faultCause access))
-    (rangeDecides cfgs mode access address size (findRange (rangesIn map) address)))
+    (cond (anyByte (leb top) size address) (Fault (faultCause access)) (rangeDecides cfgs mode access address size found))
     (Refused 1)
+
+-- the lowest-numbered range of the map that holds the first byte decides
+unfoldable pub queried : List ℕ → Map → Mode → Access → ℕ → ℕ → Decision
+queried cfgs map mode access address size = decidedBy cfgs mode access address size (findRange (rangesIn map) address)
+
+-- a range that was found elsewhere decides: where it does not hold the first byte, as none does (refusal 7)
+unfoldable pub foundDecides : List ℕ → Mode → Access → ℕ → ℕ → Found → Decision
+foundDecides cfgs mode access address size found = decidedBy cfgs mode access address size (holding found address)

@@ -7,7 +7,7 @@ ghost use Rattle.map.specs.Lookup.{holdsByte, findRange, rangesIn};
 ghost use Rattle.map.specs.declared.Found.the-variants.{At};
 ghost use Rattle.map.specs.Painting.{painted};
 ghost use Rattle.map.specs.Compiled.{mapOf, compiled};
-ghost use Rattle.map.specs.Query.{rangeDecides, queried};
+ghost use Rattle.map.specs.Query.{rangeDecides, queried, foundDecides};
 ghost use Rattle.map.specs.Sweep.{normalized, Normalized, spansIn, rangeFrom};
 
 // The bytes from `first` to `last`, both included. The owner is an entry, 0 to 15, or 16 for none; any number can be given.
@@ -171,6 +171,35 @@ fn range_decides(
     }
 }
 
+// What is decided of an access by the range of a map that was found to hold its first byte. A range that does not hold it decides as none does.
+pub fn found_decides(
+    cfgs: [u8; 16],
+    mode: pmp::Mode,
+    access: pmp::Access,
+    address: u64,
+    size: u64,
+    found: Found,
+) -> pmp::Decision
+    ensures { λ r. ⌜ r ≡ foundDecides cfgs mode access address size found ⌝ }
+{
+    if !pmp::is_size(size) {
+        return pmp::Decision::Refused(1);
+    }
+    if TOP - size < address {
+        return pmp::Decision::Fault(pmp::fault_cause(access));
+    }
+    match found {
+        Found::At(range) => {
+            if holds(range, address) {
+                range_decides(cfgs, mode, access, address, size, range)
+            } else {
+                pmp::Decision::Refused(7)
+            }
+        }
+        Found::Nothing => pmp::Decision::Refused(7),
+    }
+}
+
 // An access query: the map's range that holds the first byte decides, by the configuration bytes and with no look at an address register.
 pub fn query(
     cfgs: [u8; 16],
@@ -182,14 +211,5 @@ pub fn query(
 ) -> pmp::Decision
     ensures { λ r. ⌜ r ≡ queried cfgs map mode access address size ⌝ }
 {
-    if !pmp::is_size(size) {
-        return pmp::Decision::Refused(1);
-    }
-    if TOP - size < address {
-        return pmp::Decision::Fault(pmp::fault_cause(access));
-    }
-    match find(map, address) {
-        Found::At(range) => range_decides(cfgs, mode, access, address, size, range),
-        Found::Nothing => pmp::Decision::Refused(7),
-    }
+    found_decides(cfgs, mode, access, address, size, find(map, address))
 }

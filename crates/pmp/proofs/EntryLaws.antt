@@ -1,6 +1,6 @@
 -- Laws of the bytes that an entry matches. Assumes nothing.
 use mathlib.Core.Path.{_≡_, refl, ap}
-use mathlib.Core.Bool.{true, false, cond}
+use mathlib.Core.Bool.{true, false, cond, _&&_}
 use mathlib.Core.List.{List}
 use Prim.Native.Nat.{ℕ, zero, suc, _+_, _-_, _*_, _/_, _%_, _^_, _≤_, _<_, min}
 use native.Mathlib.Nat.{pow-suc}
@@ -10,9 +10,11 @@ use lib.Dec.{leb, ltb, eqb}
 use lib.ListN.{getD}
 use lib.Pow.{pow-add, pow-lt, pow-mono, pow-pos}
 use borrow.Author.Tests.{leb-true, ltb-true, le-leb, lt-leb, lt-ltb}
-use Rattle.bits.proofs.Conjunction.{both, not-true-false}
+use Rattle.bits.proofs.Conjunction.{contradiction, both, join, not-true-false}
 use Rattle.pmp.specs.declared.Span.{Span}
+use Rattle.pmp.specs.Search.{anyByte}
 use Rattle.pmp.specs.Entry.{top, trailingOnes, napot, spanOf, addressBefore, contains}
+use Rattle.pmp.proofs.SearchLaws.{any-none}
 
 -- two spans with equal ends are equal
 pub span-same : {a b c d : ℕ} → a ≡ c → b ≡ d → _≡_ {A = Span} (record { low = a; high = b }) (record { low = c; high = d })
@@ -127,3 +129,14 @@ module _ (s : Span) (byte : ℕ) where
 
   pub contains-beyond : s .high ≤ byte → contains s byte ≡ false
   contains-beyond h = not-true-false (contains s byte) (λ e. let b = contains-bounds e in absurd (omega arith))
+
+-- a span that ends before an access begins, or begins where it has ended, holds none of its bytes
+pub contains-none : (s : Span) (size address : ℕ) → (ltb address (s .high) && ltb (s .low) (address + size)) ≡ false
+    → anyByte (contains s) size address ≡ false
+contains-none s size address e =
+    any-none (contains s) size address
+    (λ b l h.
+    not-true-false (contains s b)
+    (λ t.
+    let w = contains-bounds s b t in
+    contradiction (join _ _ (lt-ltb address (s .high) (omega arith)) (lt-ltb (s .low) (address + size) (omega arith))) e))

@@ -1,7 +1,7 @@
 // The lowest entry that matches any byte of an access, and whether it matches all.
 use crate::Span;
 use crate::entry::contains;
-use crate::entry::span_at;
+use crate::entry::entry_span;
 ghost use mathlib.Core.Path.{_≡_};
 ghost use Prim.Native.Nat.{_+_, _≤_};
 ghost use Rattle.pmp.specs.Search.{everyByte};
@@ -14,18 +14,24 @@ pub(crate) fn lowest_match(cfgs: [u8; 16], addrs: [u64; 16], address: u64, size:
     ensures { λ r. ⌜ r ≡ lowestMatch cfgs addrs address size ⌝ }
 {
     let mut entry = 0;
+    let mut before = 0;
     'search: loop {
         if entry == 16 {
             break 'search 16;
         }
-        let span = span_at(cfgs, addrs, entry);
-        let mut byte = 0;
-        while byte < size {
-            if contains(span, address + byte) {
-                break 'search entry;
+        let addr = addrs[entry];
+        let span = entry_span(cfgs[entry], addr, before);
+        // Where no byte of the access can lie in the span, none is looked at.
+        if (address < span.high) & (span.low < address + size) {
+            let mut byte = 0;
+            while byte < size {
+                if contains(span, address + byte) {
+                    break 'search entry;
+                }
+                byte += 1;
             }
-            byte += 1;
         }
+        before = addr;
         entry += 1;
     }
 }

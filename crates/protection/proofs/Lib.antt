@@ -2,6 +2,7 @@
 pub mod ConfigLoops
 pub mod Packing
 pub mod Held
+pub mod HeldWords
 pub mod WriteLoop
 pub mod WriteKept
 pub mod SameLaws

@@ -5,31 +5,36 @@ ghost use mathlib.Core.Bool.{_&&_};
 ghost use Rattle.bits.specs.Lists.{all};
 ghost use Rattle.bits.specs.Same.{sameList};
 ghost use Rattle.protection.specs.Arrays.{Arrays};
-ghost use Rattle.protection.specs.Hold.{configHoldable, addressHoldable, pmpHoldable, resetPmp};
+ghost use Rattle.protection.specs.Configs.{unpacked, configsOf};
+ghost use Rattle.protection.specs.Hold.{configHoldable, addressHoldable, resetPmp};
 ghost use Rattle.protection.specs.Same.{samePmp};
 
-fn arrays_can_hold(cfgs: [u8; 16], addrs: [u64; 16]) -> bool
-    ensures { λ r. ⌜ r ≡ (all configHoldable cfgs && all addressHoldable addrs) ⌝ }
+// Eight configuration bytes at once: in each, bits 5 and 6 are zero, and R is set where W is.
+fn word_can_hold(word: u64) -> bool
+    ensures { λ r. ⌜ r ≡ all configHoldable (unpacked 8 word) ⌝ }
 {
-    let mut configs = true;
-    let mut addresses = true;
-    let mut i: usize = 0;
-    while i < 16 {
-        let cfg = cfgs[i];
-        configs = configs & ((cfg & 0x60 == 0) & (cfg & 3 != 2));
-        addresses = addresses & (addrs[i] < 0x40000000000000);
-        i += 1;
-    }
-    configs & addresses
+    let writable = (word >> 1) & 0x0101010101010101;
+    word & (writable | 0x6060606060606060) == writable
 }
 
-// Whether a hart can hold these registers.
-pub fn can_hold(pmp: Pmp) -> bool
-    ensures { λ r. ⌜ r ≡ pmpHoldable pmp ⌝ }
+// Whether a hart can hold the configuration bytes in pmpcfg0 and pmpcfg2.
+pub fn configs_can_hold(low: u64, high: u64) -> bool
+    ensures { λ r. ⌜ r ≡ all configHoldable (configsOf low high) ⌝ }
 {
-    let cfgs = pmp.cfgs;
-    let addrs = pmp.addrs;
-    arrays_can_hold(cfgs, addrs)
+    word_can_hold(low) & word_can_hold(high)
+}
+
+// Whether a hart can hold these address registers: no bit from 54 up is set in any of them.
+pub fn addresses_can_hold(addrs: &[u64]) -> bool
+    ensures { λ r. ⌜ r ≡ all addressHoldable (now (addrs .entry)) ⌝ }
+{
+    let mut any: u64 = 0;
+    let mut i: usize = 0;
+    while i < addrs.len() {
+        any = any | addrs[i];
+        i += 1;
+    }
+    any < 0x40000000000000
 }
 
 pub fn reset() -> Pmp

@@ -1,10 +1,11 @@
 -- What a slice of 41 words reads as, and what is left in it. Assumes nothing.
-use Prim.Native.Nat.{ℕ}
+use Prim.Native.Nat.{ℕ, _<_}
 use mathlib.Core.Path.{_≡_, refl, sym, ap, subst, _∙_}
-use mathlib.Core.List.{List}
-use borrow.Author.Tests.{eq-eqb}
-use lib.ListN.{length}
-use lib.Seq.{sets, length-sets}
+use mathlib.Core.List.{List, _++_}
+use native.Mathlib.Omega.{arith}
+use borrow.Author.Tests.{eq-eqb, ne-eqb}
+use lib.ListN.{length, set, drop}
+use lib.Seq.{sets, length-sets, sets-eq, set-append-left}
 use Rattle.bits.specs.Lists.{elements}
 use Rattle.bits.proofs.ListLaws.{elements-are}
 use Rattle.registers.specs.declared.Registers.{Registers}
@@ -39,6 +40,11 @@ module _ (w : List ℕ) (fit : length w ≡ 41) where
   unfolding storedPmp
   pmp-put p = rw (eq-eqb (length w) 41 fit)
 
+-- words of another length stay as they are
+pub registers-unfit : (w : List ℕ) (r : Registers) → (length w ≡ 41 → ⊥) → w ≡ storedRegisters r w
+unfolding storedRegisters
+registers-unfit w r h = rw (ne-eqb (length w) 41 h)
+
 registers-spelt : (r : Registers) (w : List ℕ)
     → stateOf (sets (elements 41 0 w) 0 (registerWords r)) ≡ record { registers = r; pmp = pmpOf (elements 41 0 w) }
 unfolding elements
@@ -53,6 +59,10 @@ pmp-spelt p w t =
       registers = registersOf (elements 41 0 w);
       pmp = record { cfgs = configs-back (p .cfgs) (t .cfgs) (t .bytes) j; addrs = elements-are (p .addrs) 16 0 (t .addrs) j };
     }
+
+front-spelt : (w : List ℕ) → elements 41 0 w ≡ registerWords (registersOf (elements 41 0 w)) ++ drop 23 (elements 41 0 w)
+unfolding elements
+front-spelt w = refl
 
 all-spelt : (s : State) (w : List ℕ) → sets (sets (elements 41 0 w) 0 (registerWords (s .registers))) 23 (pmpWords (s .pmp)) ≡ wordsOf s
 unfolding wordsOf elements
@@ -74,9 +84,30 @@ module _ (w : List ℕ) (fit : length w ≡ 41) where
   pub registers-length : (r : Registers) → length (storedRegisters r w) ≡ 41
   registers-length r = ap length (registers-put w fit r) ∙ length-sets w 0 (registerWords r) ∙ fit
 
+  pub pmp-length : (p : Pmp) → length (storedPmp p w) ≡ 41
+  pmp-length p = ap length (pmp-put w fit p) ∙ length-sets w 23 (pmpWords p) ∙ fit
+
   -- the words that a whole state leaves are its own
   pub all-stored : (s : State) → stored s w ≡ wordsOf s
   all-stored s =
       pmp-put (storedRegisters (s .registers) w) (registers-length (s .registers)) (s .pmp)
       ∙ ap (λ (v : List ℕ). sets v 23 (pmpWords (s .pmp))) (registers-put w fit (s .registers))
       ∙ subst (λ (v : List ℕ). sets (sets v 0 (registerWords (s .registers))) 23 (pmpWords (s .pmp)) ≡ wordsOf s) (sym (spelt w fit)) (all-spelt s w)
+
+  -- ---- one word
+
+  -- the registers lie in front
+  front : w ≡ registerWords (registersOf w) ++ drop 23 w
+  front = subst (λ (v : List ℕ). v ≡ registerWords (registersOf v) ++ drop 23 v) (sym (spelt w fit)) (front-spelt w)
+
+  -- a word that is stored where it lies: the registers with that one replaced
+  pub one-stored : (i v : ℕ) (r : Registers) → i < 23 → registerWords r ≡ set (registerWords (registersOf w)) i v → set w i v ≡ storedRegisters r w
+  one-stored i v r h e =
+      ap (λ (l : List ℕ). set l i v) front
+      ∙ set-append-left (registerWords (registersOf w)) (drop 23 w) i v h
+      ∙ ap (λ (l : List ℕ). l ++ drop 23 w) (sym e)
+      ∙ sym (registers-put w fit r ∙ sets-eq (registerWords r) w 0 (omega (arith, fit)))
+
+  -- registers that are stored as they were
+  pub none-stored : w ≡ storedRegisters (registersOf w) w
+  none-stored = front ∙ sym (registers-put w fit (registersOf w) ∙ sets-eq (registerWords (registersOf w)) w 0 (omega (arith, fit)))

@@ -1,15 +1,31 @@
 // What a hart can hold, and what reset gives.
 use crate::State;
+use crate::places;
+use crate::words::registers_at;
+use crate::words::to_words;
 ghost use mathlib.Core.Path.{_≡_};
 ghost use Rattle.state.specs.Hold.{canHold, resetState};
+ghost use Rattle.state.specs.Slices.{loaded};
+
+// Whether a hart can hold the state in the words, judged where they lie. A slice of another length reads as the reset state, which a hart can hold.
+pub fn words_can_hold(words: &[u64]) -> bool
+    ensures { λ r. ⌜ r ≡ canHold (loaded (now (words .entry))) ⌝ }
+{
+    if words.len() != 41 {
+        return true;
+    }
+    let registers = registers::registers_can_hold(registers_at(words));
+    let configs = protection::configs_can_hold(words[places::PMPCFG0], words[places::PMPCFG2]);
+    let addresses = protection::addresses_can_hold(&words[places::PMPADDR0..41]);
+    registers & (configs & addresses)
+}
 
 // Whether a hart can hold this state.
 pub fn can_hold(state: State) -> bool
     ensures { λ r. ⌜ r ≡ canHold state ⌝ }
 {
-    let registers = state.registers;
-    let pmp = state.pmp;
-    registers::registers_can_hold(registers) & protection::can_hold(pmp)
+    let words = to_words(state);
+    words_can_hold(&words)
 }
 
 pub fn reset() -> State

@@ -3,10 +3,12 @@ use protection::Pmp;
 use registers::Registers;
 
 mod hold;
+pub mod places;
 mod words;
 
 pub use hold::can_hold;
 pub use hold::reset;
+pub use hold::words_can_hold;
 pub use words::load;
 pub use words::load_pmp;
 pub use words::load_registers;

@@ -1,6 +1,7 @@
 // The registers in the order of the saved text, in a slice that is read and written where it lies. A slice of another length holds no state: it reads
 // as the reset state, and stays as it is.
 use crate::State;
+use crate::places;
 use protection::Pmp;
 use registers::Counters;
 use registers::Interrupts;
@@ -12,42 +13,42 @@ ghost use lib.Seq.{sets};
 ghost use Rattle.state.specs.Words.{registerWords, pmpWords, wordsOf, registersOf, pmpOf, stateOf};
 ghost use Rattle.state.specs.Slices.{loaded, loadedRegisters, loadedPmp, stored, storedRegisters, storedPmp};
 
-fn registers_at(words: &[u64]) -> Registers
+pub(crate) fn registers_at(words: &[u64]) -> Registers
     requires { ⌜ length (now words) ≡ 41 ⌝ }
     ensures { λ r. ⌜ r ≡ registersOf (now (words .entry)) ⌝ }
 {
     let interrupts = Interrupts {
-        mideleg: words[4],
-        mie: words[5],
-        mip: words[6],
-        lines: words[7],
+        mideleg: words[places::MIDELEG],
+        mie: words[places::MIE],
+        mip: words[places::MIP],
+        lines: words[places::LINES],
     };
     let counters = Counters {
-        mcountinhibit: words[10],
-        mcycle: words[21],
-        minstret: words[22],
+        mcountinhibit: words[places::MCOUNTINHIBIT],
+        mcycle: words[places::MCYCLE],
+        minstret: words[places::MINSTRET],
     };
     let machine = LevelRegisters {
-        tvec: words[8],
-        counteren: words[9],
-        scratch: words[11],
-        epc: words[12],
-        cause: words[13],
-        tval: words[14],
+        tvec: words[places::MTVEC],
+        counteren: words[places::MCOUNTEREN],
+        scratch: words[places::MSCRATCH],
+        epc: words[places::MEPC],
+        cause: words[places::MCAUSE],
+        tval: words[places::MTVAL],
     };
     let supervisor = LevelRegisters {
-        tvec: words[15],
-        counteren: words[16],
-        scratch: words[17],
-        epc: words[18],
-        cause: words[19],
-        tval: words[20],
+        tvec: words[places::STVEC],
+        counteren: words[places::SCOUNTEREN],
+        scratch: words[places::SSCRATCH],
+        epc: words[places::SEPC],
+        cause: words[places::SCAUSE],
+        tval: words[places::STVAL],
     };
     Registers {
-        mode: words[0],
-        pc: words[1],
-        mstatus: words[2],
-        medeleg: words[3],
+        mode: words[places::MODE],
+        pc: words[places::PC],
+        mstatus: words[places::MSTATUS],
+        medeleg: words[places::MEDELEG],
         interrupts,
         counters,
         machine,
@@ -73,29 +74,29 @@ fn put_registers(registers: Registers, words: &mut [u64])
     let counters = registers.counters;
     let machine = registers.machine;
     let supervisor = registers.supervisor;
-    words[0] = registers.mode;
-    words[1] = registers.pc;
-    words[2] = registers.mstatus;
-    words[3] = registers.medeleg;
-    words[4] = interrupts.mideleg;
-    words[5] = interrupts.mie;
-    words[6] = interrupts.mip;
-    words[7] = interrupts.lines;
-    words[8] = machine.tvec;
-    words[9] = machine.counteren;
-    words[10] = counters.mcountinhibit;
-    words[11] = machine.scratch;
-    words[12] = machine.epc;
-    words[13] = machine.cause;
-    words[14] = machine.tval;
-    words[15] = supervisor.tvec;
-    words[16] = supervisor.counteren;
-    words[17] = supervisor.scratch;
-    words[18] = supervisor.epc;
-    words[19] = supervisor.cause;
-    words[20] = supervisor.tval;
-    words[21] = counters.mcycle;
-    words[22] = counters.minstret;
+    words[places::MODE] = registers.mode;
+    words[places::PC] = registers.pc;
+    words[places::MSTATUS] = registers.mstatus;
+    words[places::MEDELEG] = registers.medeleg;
+    words[places::MIDELEG] = interrupts.mideleg;
+    words[places::MIE] = interrupts.mie;
+    words[places::MIP] = interrupts.mip;
+    words[places::LINES] = interrupts.lines;
+    words[places::MTVEC] = machine.tvec;
+    words[places::MCOUNTEREN] = machine.counteren;
+    words[places::MCOUNTINHIBIT] = counters.mcountinhibit;
+    words[places::MSCRATCH] = machine.scratch;
+    words[places::MEPC] = machine.epc;
+    words[places::MCAUSE] = machine.cause;
+    words[places::MTVAL] = machine.tval;
+    words[places::STVEC] = supervisor.tvec;
+    words[places::SCOUNTEREN] = supervisor.counteren;
+    words[places::SSCRATCH] = supervisor.scratch;
+    words[places::SEPC] = supervisor.epc;
+    words[places::SCAUSE] = supervisor.cause;
+    words[places::STVAL] = supervisor.tval;
+    words[places::MCYCLE] = counters.mcycle;
+    words[places::MINSTRET] = counters.minstret;
 }
 
 // Writes the registers but those of protection.
@@ -108,29 +109,18 @@ pub fn store_registers(registers: Registers, words: &mut [u64])
     put_registers(registers, words);
 }
 
+// The addresses are copied by a loop, here and below: it is compiled to one copy of 128 bytes, where sixteen reads stay sixteen loads and stores.
 fn pmp_at(words: &[u64]) -> Pmp
     requires { ⌜ length (now words) ≡ 41 ⌝ }
     ensures { λ r. ⌜ r ≡ pmpOf (now (words .entry)) ⌝ }
 {
-    let addrs = [
-        words[25],
-        words[26],
-        words[27],
-        words[28],
-        words[29],
-        words[30],
-        words[31],
-        words[32],
-        words[33],
-        words[34],
-        words[35],
-        words[36],
-        words[37],
-        words[38],
-        words[39],
-        words[40],
-    ];
-    let cfgs = protection::configs_of(words[23], words[24]);
+    let mut addrs = [0u64; 16];
+    let mut i: usize = 0;
+    while i < 16 {
+        addrs[i] = words[places::PMPADDR0 + i];
+        i += 1;
+    }
+    let cfgs = protection::configs_of(words[places::PMPCFG0], words[places::PMPCFG2]);
     Pmp { cfgs, addrs }
 }
 
@@ -150,24 +140,13 @@ fn put_pmp(pmp: Pmp, words: &mut [u64])
 {
     let cfgs = pmp.cfgs;
     let addrs = pmp.addrs;
-    words[23] = protection::pmpcfg0(cfgs);
-    words[24] = protection::pmpcfg2(cfgs);
-    words[25] = addrs[0];
-    words[26] = addrs[1];
-    words[27] = addrs[2];
-    words[28] = addrs[3];
-    words[29] = addrs[4];
-    words[30] = addrs[5];
-    words[31] = addrs[6];
-    words[32] = addrs[7];
-    words[33] = addrs[8];
-    words[34] = addrs[9];
-    words[35] = addrs[10];
-    words[36] = addrs[11];
-    words[37] = addrs[12];
-    words[38] = addrs[13];
-    words[39] = addrs[14];
-    words[40] = addrs[15];
+    words[places::PMPCFG0] = protection::pmpcfg0(cfgs);
+    words[places::PMPCFG2] = protection::pmpcfg2(cfgs);
+    let mut i: usize = 0;
+    while i < 16 {
+        words[places::PMPADDR0 + i] = addrs[i];
+        i += 1;
+    }
 }
 
 // Writes the protection registers.

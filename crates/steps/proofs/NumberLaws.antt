@@ -22,14 +22,9 @@ three l i h =
     let r : i + 3 ≡ suc (suc (suc i)) = omega arith in
     rw (p, q, r, drop-cons l i 0 (omega arith), drop-cons l (suc i) 0 (omega arith), drop-cons l (suc (suc i)) 0 (omega arith))
 
-assoc-and : (a b c : Bool) → (a && (b && c)) ≡ ((a && b) && c)
-assoc-and true b c = refl
-assoc-and false b c = refl
-
-pub named-next : (l : List ℕ) (i : ℕ) (n : Bool) → 3 ≤ length l - i
-    → (n && nameSteps (drop i l)) ≡ ((n && leb (getD l i 0) 17) && nameSteps (drop (i + 3) l))
+pub named-next : (l : List ℕ) (i : ℕ) → 3 ≤ length l - i → nameSteps (drop i l) ≡ (leb (getD l i 0) 17 && nameSteps (drop (i + 3) l))
 unfolding nameSteps
-named-next l i n h = rw (three l i (omega arith)) (assoc-and n (leb (getD l i 0) 17) (nameSteps (drop (i + 3) l)))
+named-next l i h = rw (three l i (omega arith))
 
 -- fewer than three numbers are left
 last-named : (l : List ℕ) → length l < 3 → nameSteps l ≡ eqb (length l) 0
@@ -46,10 +41,9 @@ all-passed n i h = go (eqb n i) refl
     go true e = eq-eqb (n - i) 0 (omega (arith, eqb-true n i e))
     go false e = ne-eqb (n - i) 0 (λ z. eqb-false n i e (omega arith))
 
-pub named-end : (l : List ℕ) (i : ℕ) (n : Bool) → i ≤ length l → length l - i < 3 → (n && nameSteps (drop i l)) ≡ (n && eqb (length l) i)
-named-end l i n h g =
-    ap (λ (b : Bool). n && b)
-    (last-named (drop i l) (omega (arith, length-drop i l)) ∙ ap (λ (k : ℕ). eqb k 0) (length-drop i l) ∙ all-passed (length l) i h)
+pub named-end : (l : List ℕ) (i : ℕ) → i ≤ length l → length l - i < 3 → nameSteps (drop i l) ≡ eqb (length l) i
+named-end l i h g =
+    last-named (drop i l) (omega (arith, length-drop i l)) ∙ ap (λ (k : ℕ). eqb k 0) (length-drop i l) ∙ all-passed (length l) i h
 
 -- a step's number forms a step
 pub record IsFormed (d : Decoded) : Type 0 where

@@ -34,15 +34,17 @@ pub fn decode(number: u64, a: u64, b: u64) -> Decoded
     }
 }
 
-// Whether there are three words for each step, and each number names one.
+// Whether there are three words for each step, and each number names one. The loop ends at the first that does not, which also keeps the compiler from
+// unrolling it: `tegrwyllt_step` asks of one step.
 pub fn name_steps(steps: &[u64]) -> bool
     ensures { λ r. ⌜ r ≡ nameSteps (now (steps .entry)) ⌝ }
 {
-    let mut named = true;
     let mut at: usize = 0;
     while 3 <= steps.len() - at {
-        named = named & (steps[at] <= 17);
+        if 17 < steps[at] {
+            return false;
+        }
         at += 3;
     }
-    named & (steps.len() == at)
+    steps.len() == at
 }

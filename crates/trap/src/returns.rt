@@ -18,7 +18,7 @@ use steps::Answer;
 use steps::Level;
 ghost use mathlib.Core.Path.{_≡_};
 ghost use Prim.Native.Nat.{_+_, _%_, _^_};
-ghost use Rattle.trap.specs.Return.{clearedMprv, returnedStatus, returned, mayReturn, returnStep, mayWait, waited};
+ghost use Rattle.trap.specs.Return.{clearedMprv, returnedStatus, returned, mayReturn, mayWait, waited};
 
 // MPRV where a return to the mode clears it.
 fn cleared_mprv(mode: u64) -> u64
@@ -38,7 +38,8 @@ fn returned_status(level: Level, mstatus: u64) -> u64
     }
 }
 
-fn return_registers(level: Level, r: Registers) -> Registers
+// The registers after a return: MRET for the machine level, SRET for the supervisor level.
+pub fn return_registers(level: Level, r: Registers) -> Registers
     ensures { λ e. ⌜ e ≡ returned level r ⌝ }
 {
     let l = level_registers(level, r);
@@ -49,26 +50,13 @@ fn return_registers(level: Level, r: Registers) -> Registers
     e
 }
 
-fn may_return(level: Level, r: Registers) -> bool
+// Whether the mode may return from the level; else it is an illegal instruction.
+pub fn may_return(level: Level, r: Registers) -> bool
     ensures { λ b. ⌜ b ≡ mayReturn level r ⌝ }
 {
     match level {
         Level::Supervisor => (r.mode == 3) | ((r.mode == 1) & (r.mstatus / TSR % 2 != 1)),
         Level::Machine => r.mode == 3,
-    }
-}
-
-// MRET for the machine level, SRET for the supervisor level.
-pub fn return_from(level: Level, r: Registers) -> Outcome
-    ensures { λ o. ⌜ o ≡ returnStep level r ⌝ }
-{
-    if may_return(level, r) {
-        Outcome {
-            registers: return_registers(level, r),
-            answer: Answer::Done,
-        }
-    } else {
-        illegal_instruction(r)
     }
 }
 

@@ -1,25 +1,40 @@
-use mathlib.Core.Path.{sym, _∙_}
+use Rattle.state.proofs.SliceLaws.{registers-unfit}
+use Rattle.csr.proofs.OperateLaws.{stores, reads}
 use borrow.Author.Needs.{needs}
 use Rattle.csr.proofs.operation.operate.Statement.{statement}
 use Rattle.csr.proofs.operation.operate.Tie as tie
 
 returns : tie.Need-returns
-returns c =
-    let v = c .before in
-    let f = v .before in
-    let t = f .before in
-    rw (sym (t .before .attempts-write .ensures) ∙ t .if1 .taken, c .write .ensures, v .value-written .ensures, f .modified-from .ensures)
+returns c = registers-unfit _ _ (c .if1 .taken)
 
 returns-2 : tie.Need-returns-2
-returns-2 c = rw (sym (c .before .attempts-write .ensures) ∙ c .if1 .left)
+returns-2 c =
+    let x = c .before .before in
+    let v = x .before in
+    let m = v .before .before in
+    let i = m .before .before in
+    let t = i .before in
+    let e = t .before in
+    let a = e .before .before .args in
+    stores (a .words .now) (e .if1 .left) (a .operation) (a .number) (a .operand) (a .old) (t .attempts-write .ensures) (i .if2 .taken) (m .modified-from .ensures)
+    (v .value-written .ensures) (x .write .ensures)
+
+returns-3 : tie.Need-returns-3
+returns-3 c =
+    let t = c .before in
+    let e = t .before in
+    let a = e .before .before .args in
+    reads (a .words .now) (e .if1 .left) (a .operation) (a .number) (a .operand) (a .old) (t .attempts-write .ensures) (c .if2 .left)
 
 pub operate-spec : {M : Type 1} → statement M
 operate-spec =
     tie.close
     (tie.spec
-    (λ c κs. search needs)
-    (λ c κs. search needs)
-    (λ c κs. search needs)
-    (λ c κs. search needs)
     returns
-    returns-2)
+    (λ c κs. search needs)
+    (λ c κs. search needs)
+    (λ c κs. search needs)
+    (λ c κs. search needs)
+    (λ c. search needs)
+    returns-2
+    returns-3)

@@ -8,9 +8,9 @@ returns : tie.Need-returns
 returns c =
     let k = c .before .before in
     let m = k .before in
-    let p = m .before .before .before in
-    let r = p .before .before in
-    let b = r .before .before .before in
+    let r = m .before in
+    let p = r .before .before .before .before in
+    let b = p .before .before .before in
     let a = b .args in
     access-does (a .words .now) (b .pre) (a .access) (a .address) (a .size) (r .load-registers .ensures) (p .load-pmp .ensures) (m .effective-mode .ensures) (k .check .ensures) (c .enum-told .given .1) (refl, refl)
 
@@ -18,24 +18,31 @@ returns-2 : tie.Need-returns-2
 returns-2 c =
     let t = c .before .before in
     let o = t .before .before in
-    let q = o .before .before in
+    let l = o .before in
+    let q = l .before .before .before in
     let k = q .before .before in
     let m = k .before in
-    let p = m .before .before .before in
-    let r = p .before .before in
-    let b = r .before .before .before in
+    let r = m .before in
+    let p = r .before .before .before .before in
+    let b = p .before .before .before in
     let a = b .args in
-    fault-does (a .words .now) (b .pre) (a .access) (a .address) (a .size) (r .load-registers .ensures) (p .load-pmp .ensures) (m .effective-mode .ensures) (k .check .ensures) (q .cause .given .1) (o .raise .ensures) (t .leave .ensures .0) (t .leave .ensures .1)
+    fault-does (a .words .now) (b .pre) (a .access) (a .address) (a .size) (r .load-registers .ensures) (p .load-pmp .ensures) (m .effective-mode .ensures) (k .check .ensures) (q .cause .given .1) (l .load-registers2 .ensures) (o .raise .ensures) (t .leave .ensures .0) (t .leave .ensures .1)
 
 returns-3 : tie.Need-returns-3
 returns-3 c =
     let k = c .before .before .before in
     let m = k .before in
-    let p = m .before .before .before in
-    let r = p .before .before in
-    let b = r .before .before .before in
+    let r = m .before in
+    let p = r .before .before .before .before in
+    let b = p .before .before .before in
     let a = b .args in
     access-does (a .words .now) (b .pre) (a .access) (a .address) (a .size) (r .load-registers .ensures) (p .load-pmp .ensures) (m .effective-mode .ensures) (k .check .ensures) (c .before .number .given .1) (refl, refl)
+
+leave-requires : tie.Need-leave-requires
+leave-requires c κs =
+    let k = c .before .before .before .before .before .before .before in
+    let p = k .before .before .before .before .before .before in
+    p .before .before .before .pre
 
 pub access-at-spec : {M : Type 1} → statement M
 access-at-spec =
@@ -49,6 +56,7 @@ access-at-spec =
     (λ c. search needs)
     (λ c κs. search needs)
     (λ c κs. search needs)
+    leave-requires
     (λ c. search needs)
     (λ c. search needs)
     returns

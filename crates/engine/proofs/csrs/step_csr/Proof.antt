@@ -15,14 +15,15 @@ returns-2 : tie.Need-returns-2
 returns-2 c =
     let t = c .before .before .before in
     let o = t .before .before in
-    let i = o .before in
+    let l = o .before in
+    let i = l .before .before in
     let g = i .before in
     let r = g .before in
     let e = r .before .before in
     let b = e .before .before in
     let a = b .args in
     csr-illegal (a .words .now) (b .pre) (a .operation) (a .number) (a .operand) (e .if1 .left) (r .load-registers .ensures) (g .is-illegal .ensures)
-    (i .if2 .taken) (o .illegal-instruction .ensures) (t .leave .ensures .0) (t .leave .ensures .1) (c .apart2 .ensures)
+    (i .if2 .taken) (l .load-registers2 .ensures) (o .illegal-instruction .ensures) (t .leave .ensures .0) (t .leave .ensures .1) (c .apart2 .ensures)
 
 returns-3 : tie.Need-returns-3
 returns-3 c =
@@ -42,9 +43,9 @@ returns-4 : tie.Need-returns-4
 returns-4 c =
     let x = c .before .before .before in
     let n = x .before .before in
-    let o = n .before in
-    let d = o .before in
-    let i = d .before in
+    let d = n .before .before in
+    let l = d .before in
+    let i = l .before .before in
     let q = i .before in
     let f = q .before in
     let g = f .before in
@@ -53,8 +54,7 @@ returns-4 c =
     let b = e .before .before in
     let a = b .args in
     csr-register (a .words .now) (b .pre) (a .operation) (a .number) (a .operand) (e .if1 .left) (r .load-registers .ensures) (g .is-illegal .ensures)
-    (f .if2 .left) (q .is-pmp .ensures) (i .if3 .left) (d .read .ensures) (o .operate .ensures) (n .next-pc .ensures) (c .apart3 .ensures)
-    (x .store-registers .ensures)
+    (f .if2 .left) (q .is-pmp .ensures) (i .if3 .left) (l .load-registers3 .ensures) (d .read .ensures) (n .next-pc .ensures) (x .operate .ensures) (c .apart3 .ensures)
 
 pub step-csr-spec : {M : Type 1} → statement M
 step-csr-spec =
@@ -62,6 +62,7 @@ step-csr-spec =
     (tie.spec
     (λ c κs. search needs)
     returns
+    (λ c κs. search needs)
     (λ c κs. search needs)
     (λ c κs. search needs)
     (λ c κs. search needs)
@@ -75,8 +76,10 @@ step-csr-spec =
     returns-3
     (λ c κs. search needs)
     (λ c κs. search needs)
+    (λ c. search needs)
     (λ c κs. search needs)
     (λ c κs. search needs)
+    (λ c. search needs)
     (λ c κs. search needs)
     (λ c. search needs)
     returns-4)

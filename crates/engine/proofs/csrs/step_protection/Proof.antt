@@ -6,17 +6,15 @@ use Rattle.engine.proofs.csrs.step_protection.Tie as tie
 returns : tie.Need-returns
 returns c =
     let y = c .before .before .before in
-    let x = y .before .before .before .before in
-    let n = x .before .before in
-    let g = n .before in
-    let t = g .before .before in
+    let n = y .before .before in
+    let t = n .before .before in
     let o = t .before in
     let d = o .before in
     let p = d .before in
     let b = p .before .before .before in
     let a = b .args in
     protection-done (a .words .now) (b .pre) (a .operation) (a .number) (a .operand) (p .load-pmp .ensures) (d .read-register .ensures) (o .operate-pmp .ensures)
-    (t .typed .ensures) (g .load-registers .ensures) (n .next-pc .ensures) (x .store-registers .ensures) (y .store-pmp .ensures) (c .same .ensures)
+    (t .typed .ensures) (n .next-pc .ensures) (y .store-pmp .ensures) (c .same .ensures)
 
 pub step-protection-spec : {M : Type 1} → statement M
 step-protection-spec =
@@ -26,10 +24,10 @@ step-protection-spec =
     (λ c κs. search needs)
     (λ c κs. search needs)
     (λ c κs. search needs)
+    (λ c. search needs)
     (λ c κs. search needs)
     (λ c κs. search needs)
-    (λ c κs. search needs)
-    (λ c κs. search needs)
+    (λ c. search needs)
     (λ c κs. search needs)
     (λ c. search needs)
     returns)

@@ -33,20 +33,12 @@ returns-3 c =
 returns-4 : tie.Need-returns-4
 returns-4 c =
     let t = c .before .before in
-    let o = t .before .before in
-    let g = o .before in
-    let k = g .before .before in
-    let b = k .before .before .before in
-    event-does (b .args .words .now) (b .pre) (k .enum-told2 .given .1) (g .load-registers4 .ensures) (o .return-from .ensures) (t .leave4 .ensures .0) (t .leave4 .ensures .1)
+    rw (t .before .before .enum-told2 .given .1) (t .step-return .ensures)
 
 returns-5 : tie.Need-returns-5
 returns-5 c =
     let t = c .before .before in
-    let o = t .before .before in
-    let g = o .before in
-    let k = g .before .before in
-    let b = k .before .before .before in
-    event-does (b .args .words .now) (b .pre) (k .enum-told3 .given .1) (g .load-registers5 .ensures) (o .return-from2 .ensures) (t .leave5 .ensures .0) (t .leave5 .ensures .1)
+    rw (t .before .before .enum-told3 .given .1) (t .step-return2 .ensures)
 
 returns-6 : tie.Need-returns-6
 returns-6 c =
@@ -55,7 +47,7 @@ returns-6 c =
     let g = o .before in
     let k = g .before .before in
     let b = k .before .before .before in
-    event-does (b .args .words .now) (b .pre) (k .enum-told4 .given .1) (g .load-registers6 .ensures) (o .wait .ensures) (t .leave6 .ensures .0) (t .leave6 .ensures .1)
+    event-does (b .args .words .now) (b .pre) (k .enum-told4 .given .1) (g .load-registers4 .ensures) (o .wait .ensures) (t .leave4 .ensures .0) (t .leave4 .ensures .1)
 
 returns-7 : tie.Need-returns-7
 returns-7 c =
@@ -64,7 +56,7 @@ returns-7 c =
     let g = o .before in
     let k = g .before .before in
     let b = k .before .before .before in
-    event-does (b .args .words .now) (b .pre) (k .enum-told5 .given .1) (g .load-registers7 .ensures) (o .environment-call .ensures) (t .leave7 .ensures .0) (t .leave7 .ensures .1)
+    event-does (b .args .words .now) (b .pre) (k .enum-told5 .given .1) (g .load-registers5 .ensures) (o .environment-call .ensures) (t .leave5 .ensures .0) (t .leave5 .ensures .1)
 
 returns-8 : tie.Need-returns-8
 returns-8 c =
@@ -73,7 +65,7 @@ returns-8 c =
     let g = o .before in
     let k = g .before .before in
     let b = k .before .before .before in
-    event-does (b .args .words .now) (b .pre) (k .enum-told6 .given .1) (g .load-registers8 .ensures) (o .breakpoint .ensures) (t .leave8 .ensures .0) (t .leave8 .ensures .1)
+    event-does (b .args .words .now) (b .pre) (k .enum-told6 .given .1) (g .load-registers6 .ensures) (o .breakpoint .ensures) (t .leave6 .ensures .0) (t .leave6 .ensures .1)
 
 returns-9 : tie.Need-returns-9
 returns-9 c =
@@ -82,7 +74,7 @@ returns-9 c =
     let g = o .before in
     let k = g .before .before .before in
     let b = k .before .before .before in
-    event-does (b .args .words .now) (b .pre) (k .event3 .given .1) (g .load-registers9 .ensures) (o .advance .ensures) (t .leave9 .ensures .0) (t .leave9 .ensures .1)
+    event-does (b .args .words .now) (b .pre) (k .event3 .given .1) (g .load-registers7 .ensures) (o .advance .ensures) (t .leave7 .ensures .0) (t .leave7 .ensures .1)
 
 returns-10 : tie.Need-returns-10
 returns-10 c =
@@ -91,7 +83,7 @@ returns-10 c =
     let g = o .before in
     let k = g .before .before .before in
     let b = k .before .before .before in
-    event-does (b .args .words .now) (b .pre) (k .event4 .given .1) (g .load-registers10 .ensures) (o .elapse .ensures) (t .leave10 .ensures .0) (t .leave10 .ensures .1)
+    event-does (b .args .words .now) (b .pre) (k .event4 .given .1) (g .load-registers8 .ensures) (o .elapse .ensures) (t .leave8 .ensures .0) (t .leave8 .ensures .1)
 
 pub step-event-spec : {M : Type 1} → statement M
 step-event-spec =
@@ -111,11 +103,7 @@ step-event-spec =
     (λ c κs. search needs)
     (λ c. search needs)
     (λ c κs. search needs)
-    (λ c κs. search needs)
-    (λ c κs. search needs)
     (λ c. search needs)
-    (λ c κs. search needs)
-    (λ c κs. search needs)
     (λ c κs. search needs)
     (λ c. search needs)
     (λ c κs. search needs)

@@ -1,5 +1,5 @@
 use Prim.Native.Nat.{_+_, _-_, _^_, _≤_, _<_}
-use mathlib.Core.Path.{_≡_, refl, sym, ap, _∙_}
+use mathlib.Core.Path.{_≡_, refl, ap, _∙_}
 use mathlib.Core.Bool.{true, _||_}
 use native.Mathlib.Omega.{arith}
 use lib.ListN.{length, getD, drop}
@@ -27,13 +27,13 @@ abbrev μ-loop : tie.MeasureT-loop
 μ-loop words₀ steps answers₀ held₀ remap₀ i₀ words answers held remap i = length steps - i
 
 abbrev start : tie.At-loop Inv-loop μ-loop → tie.Start Inv-loop μ-loop
-start c = c .before .before .before .before .before .before .before
+start c = c .before .before .before .before .before .before
 
 loop-holds : tie.Need-loop-holds Inv-loop μ-loop
 loop-holds c =
-    let b = c .before .before .before .before .before .before in
+    let b = c .before .before .before .before .before in
     let p = b .pre in
-    (search needs, p .0, refl, p .1, c .can-hold .ensures ∙ ap canHold (c .before .load .ensures ∙ all-loaded (b .args .words .now) (p .0)), refl, refl, refl)
+    (search needs, p .0, refl, p .1, c .words-can-hold .ensures ∙ ap canHold (all-loaded (b .args .words .now) (p .0)), refl, refl, refl)
 
 -- the step at i
 at : (c : tie.In-loop Inv-loop μ-loop) → Named (start (c .before) .args .steps .now) (c .before .loop .i)
@@ -125,7 +125,6 @@ run-steps-spec =
     (tie.spec
     Inv-loop
     μ-loop
-    (λ c κs. search needs)
     (λ c κs. search needs)
     loop-holds
     (λ c. search needs)

@@ -1,12 +1,12 @@
-use borrow.Author.Tests.{eq-eqb, ne-eqb}
+use borrow.Author.Tests.{eq-eqb}
 use Rattle.state.specs.Slices.{storedRegisters}
+use Rattle.state.proofs.SliceLaws.{registers-unfit}
 use borrow.Author.Needs.{needs}
 use Rattle.state.proofs.words.store_registers.Statement.{statement}
 use Rattle.state.proofs.words.store_registers.Tie as tie
 
 returns : tie.Need-returns
-unfolding storedRegisters
-returns c = rw (ne-eqb _ _ (c .if1 .taken))
+returns c = registers-unfit _ _ (c .if1 .taken)
 
 returns-2 : tie.Need-returns-2
 unfolding storedRegisters
