@@ -11,8 +11,13 @@ use borrow.Author.Tests.{ltb-true}
 use native.Mathlib.Omega.{arith}
 use Rattle.bits.proofs.Conjunction.{both}
 use Rattle.bits.specs.Lists.{all}
+use Rattle.bits.specs.Mask.{testBit}
+use Rattle.steps.specs.declared.Level.{Level}
+use Rattle.steps.specs.declared.Level.the-variants.{Supervisor, Machine}
+use Rattle.registers.specs.declared.Registers.{Registers}
+use Rattle.trap.specs.declared.Choice.{Choice}
 use Rattle.trap.specs.declared.Choice.the-variants.{Take, Nothing}
-use Rattle.trap.specs.Interrupt.{firstOf, priority}
+use Rattle.trap.specs.Interrupt.{takeableTo, firstOf, priority, orElse, machineBoundFirst}
 
 module _ (test : ℕ → Bool) (xs : List ℕ) where
   first-at : (i : ℕ) → i < length xs → firstOf test (drop i xs) ≡ cond (test (getD xs i 0)) (Take (getD xs i 0)) (firstOf test (drop (i + 1) xs))
@@ -39,7 +44,30 @@ module _ (good test : ℕ → Bool) (i : ℕ) where
   first-of [] a q = let z : _≡_ {A = ℕ} 0 1 = cc in absurd (omega arith)
   first-of (x ∷ xs) a q = let w = both (good x) (all good xs) a in first-cases x xs (test x) refl (w .0) (first-of xs (w .1)) q
 
--- the interrupt chosen is a place of a word, and takeable
-pub chosen : (test : ℕ → Bool) (i : ℕ) → firstOf test priority ≡ Take i → (i < 64) × (test i ≡ true)
+-- two tests that agree on the places of a word choose alike
+first-same : (f g : ℕ → Bool) (xs : List ℕ) → all (λ (n : ℕ). ltb n 64) xs ≡ true → ((i : ℕ) → i < 64 → f i ≡ g i) → firstOf f xs ≡ firstOf g xs
 unfolding all
-chosen test i q = let w = first-of (λ (n : ℕ). ltb n 64) test i priority refl q in (ltb-true i 64 (w .0), w .1)
+first-same f g [] a h = refl
+first-same f g (x ∷ xs) a h =
+    let w = both (ltb x 64) (all (λ (n : ℕ). ltb n 64) xs) a in
+    rw (h x (ltb-true x 64 (w .0)), first-same f g xs (w .1) h)
+
+-- the first of a word whose bits are the takeable interrupts bound for a level
+pub first-bound : (level : Level) (r : Registers) (set : ℕ) → ((i : ℕ) → i < 64 → testBit set i ≡ takeableTo level r i)
+    → firstOf (testBit set) priority ≡ firstOf (takeableTo level r) priority
+unfolding all
+first-bound level r set h = first-same (testBit set) (takeableTo level r) priority refl h
+
+-- what is chosen of two is chosen by one of them
+either-chosen : {P : Type 0} (first second : Choice) (i : ℕ) → (first ≡ Take i → P) → (second ≡ Take i → P) → orElse first second ≡ Take i → P
+either-chosen (Take j) second i p q e = p e
+either-chosen Nothing second i p q e = q e
+
+module _ (r : Registers) (i : ℕ) where
+  chosen-to : (level : Level) → firstOf (takeableTo level r) priority ≡ Take i → i < 64
+  unfolding all
+  chosen-to level e = ltb-true i 64 (first-of (λ (n : ℕ). ltb n 64) (takeableTo level r) i priority refl e .0)
+
+  -- the interrupt chosen is a place of a word
+  pub chosen : machineBoundFirst r ≡ Take i → i < 64
+  chosen e = either-chosen _ _ i (chosen-to Machine) (chosen-to Supervisor) e

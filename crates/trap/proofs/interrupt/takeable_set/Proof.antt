@@ -1,0 +1,30 @@
+use mathlib.Core.Path.{sym, ap, _∙_}
+use borrow.Author.Needs.{needs}
+use borrow.Author.Tests.{not-true, not-false}
+use Rattle.trap.proofs.Takeable.{machine-set, supervisor-set, empty-set}
+use Rattle.trap.proofs.interrupt.takeable_set.Statement.{statement}
+use Rattle.trap.proofs.interrupt.takeable_set.Tie as tie
+
+returns : tie.Need-returns
+returns c =
+    let a = c .before .before .before .before .args in
+    empty-set (a .r) (a .level) (sym (c .before .admits .ensures) ∙ not-true _ (c .if1 .taken))
+
+returns-2 : tie.Need-returns-2
+returns-2 c =
+    let e = c .before .before .before in
+    let a = e .before .before .before .before .args in
+    rw (c .before .enum-told .given .1, e .before .before .before .pending-interrupts .ensures)
+    (machine-set (a .r) (rw (c .before .enum-told .given .1) at (sym (e .before .admits .ensures) ∙ not-false _ (e .if1 .left))) (search needs))
+
+returns-3 : tie.Need-returns-3
+returns-3 c =
+    let e = c .before .before .before in
+    let a = e .before .before .before .before .args in
+    rw (c .before .enum-told2 .given .1, e .before .before .before .pending-interrupts .ensures)
+    (supervisor-set (a .r) (rw (c .before .enum-told2 .given .1) at (sym (e .before .admits .ensures) ∙ not-false _ (e .if1 .left))))
+
+pub takeable-set-spec : {M : Type 1} → statement M
+takeable-set-spec =
+    tie.close
+    (tie.spec (λ c κs. search needs) (λ c κs. search needs) returns (λ c. search needs) (λ c. search needs) returns-2 returns-3)
