@@ -22,7 +22,7 @@ impl Hart {
 
     /// The interrupt to take: the first takeable one bound for M, and where there
     /// is none, the first bound for S (request [2] of document 02).
-    fn next_interrupt(&self) -> Option<u64> {
+    pub fn next_interrupt(&self) -> Option<u64> {
         self.first_takeable(Mode::Machine).or_else(|| self.first_takeable(Mode::Supervisor))
     }
 
@@ -43,7 +43,7 @@ impl Hart {
 
     /// Whether the interrupt pends, is enabled, and may interrupt the mode the
     /// hart is in.
-    fn takeable(&self, code: u64) -> bool {
+    pub fn takeable(&self, code: u64) -> bool {
         let enabled = self.pending() & self.mie;
         enabled >> code & 1 == 1
             && match self.interrupt_destination(code) {
