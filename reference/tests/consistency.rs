@@ -29,6 +29,19 @@ fn states_made_to_be_held_can_be_and_damaged_ones_mostly_cannot() {
 }
 
 #[test]
+fn with_mixed_delegation_step_7_mostly_chooses_between_m_and_s() {
+    let choosing = (0..STATES)
+        .map(|seed| generate::mixed_delegation(&mut Random::new(seed)))
+        .filter(|hart| {
+            assert!(hart.can_hold());
+            let bound = |mideleg: u64| (0..12).any(|i| mideleg >> i & 1 == 1 && hart.takeable(i));
+            bound(hart.mideleg) && bound(!hart.mideleg)
+        })
+        .count() as u64;
+    assert!(choosing > STATES / 2);
+}
+
+#[test]
 fn steps_keep_what_a_hart_can_hold_and_the_map_of_its_registers() {
     for (mut random, mut hart) in states() {
         let mut map = hart.compile();
