@@ -32,17 +32,31 @@ module _ (test : ℕ → Bool) (xs : List ℕ) where
   pub first-none : (i : ℕ) → length xs ≤ i → firstOf test (drop i xs) ≡ firstOf test xs → Nothing ≡ firstOf test xs
   first-none i h e = rw (← e, drop-of-length-le xs h)
 
-module _ (good test : ℕ → Bool) (i : ℕ) where
-  first-cases : (x : ℕ) (xs : List ℕ) (b : Bool) → test x ≡ b → good x ≡ true → (firstOf test xs ≡ Take i → (good i ≡ true) × (test i ≡ true))
-      → cond b (Take x) (firstOf test xs) ≡ Take i → (good i ≡ true) × (test i ≡ true)
-  first-cases x xs true p g later q = let e : x ≡ i = cc in (rw e at g, rw e at p)
-  first-cases x xs false p g later q = later q
+module _ (test : ℕ → Bool) (i : ℕ) where
+  pub none-chosen : {P : Type 0} → Nothing ≡ Take i → P
+  none-chosen q = let z : _≡_ {A = ℕ} 0 1 = cc in absurd (omega arith)
 
-  -- the number chosen has what all numbers of the list have, and passes the test
-  pub first-of : (xs : List ℕ) → all good xs ≡ true → firstOf test xs ≡ Take i → (good i ≡ true) × (test i ≡ true)
+  -- the number chosen is the first of the list, or is chosen of the rest
+  pub at-head : (P : Type 0) (x : ℕ) (xs : List ℕ) → (test x ≡ true → x ≡ i → P) → (test x ≡ false → firstOf test xs ≡ Take i → P)
+      → firstOf test (x ∷ xs) ≡ Take i → P
+  at-head P x xs here later q = go (test x) refl q
+    where
+      go : (b : Bool) → test x ≡ b → cond b (Take x) (firstOf test xs) ≡ Take i → P
+      go true p e = here p cc
+      go false p e = later p e
+
+  -- it passes the test
+  pub passes : (xs : List ℕ) → firstOf test xs ≡ Take i → test i ≡ true
+  passes [] q = none-chosen q
+  passes (x ∷ xs) q = at-head (test i ≡ true) x xs (λ p e. rw e at p) (λ p e. passes xs e) q
+
+  -- it has what all numbers of the list have
+  like-all : (good : ℕ → Bool) (xs : List ℕ) → all good xs ≡ true → firstOf test xs ≡ Take i → good i ≡ true
   unfolding all
-  first-of [] a q = let z : _≡_ {A = ℕ} 0 1 = cc in absurd (omega arith)
-  first-of (x ∷ xs) a q = let w = both (good x) (all good xs) a in first-cases x xs (test x) refl (w .0) (first-of xs (w .1)) q
+  like-all good [] a q = none-chosen q
+  like-all good (x ∷ xs) a q =
+      let w = both (good x) (all good xs) a in
+      at-head (good i ≡ true) x xs (λ p e. rw e at (w .0)) (λ p e. like-all good xs (w .1) e) q
 
 -- two tests that agree on the places of a word choose alike
 first-same : (f g : ℕ → Bool) (xs : List ℕ) → all (λ (n : ℕ). ltb n 64) xs ≡ true → ((i : ℕ) → i < 64 → f i ≡ g i) → firstOf f xs ≡ firstOf g xs
@@ -66,7 +80,7 @@ either-chosen Nothing second i p q e = q e
 module _ (r : Registers) (i : ℕ) where
   chosen-to : (level : Level) → firstOf (takeableTo level r) priority ≡ Take i → i < 64
   unfolding all
-  chosen-to level e = ltb-true i 64 (first-of (λ (n : ℕ). ltb n 64) (takeableTo level r) i priority refl e .0)
+  chosen-to level e = ltb-true i 64 (like-all (takeableTo level r) i (λ (n : ℕ). ltb n 64) priority refl e)
 
   -- the interrupt chosen is a place of a word
   pub chosen : machineBoundFirst r ≡ Take i → i < 64
