@@ -59,10 +59,10 @@ pub record Takes (h : Hart) (map : Map) (after : Stepped) : Type 0 where
   pub entry :
       after
       ≡ handedBack
-        (hartWith
-          (withRegisters (h .state)
-            (entered (cond (delegated (h .state .registers) interrupt) Supervisor Machine) (Interrupt interrupt) 0 (h .state .registers))))
-        map (DoneFlag true)
+      (hartWith
+      (withRegisters (h .state)
+      (entered (cond (delegated (h .state .registers) interrupt) Supervisor Machine) (Interrupt interrupt) 0 (h .state .registers))))
+      map (DoneFlag true)
 
 -- "if none is, it is no and nothing changes"
 pub record TakesNone (h : Hart) (map : Map) (after : Stepped) : Type 0 where
