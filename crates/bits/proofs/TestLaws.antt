@@ -1,7 +1,7 @@
 -- Tests of a single bit: of what two words share, and of a complement. Assumes nothing.
-use Prim.Native.Nat.{ℕ, zero, suc, _+_, _-_, _*_, _/_, _%_, _^_, _<_, _≤_, min}
+use Prim.Native.Nat.{ℕ, zero, suc, _+_, _-_, _/_, _^_, _<_, min}
 use mathlib.Core.Path.{_≡_, refl, sym, ap, _∙_}
-use mathlib.Core.Bool.{Bool, true, false, not, _&&_}
+use mathlib.Core.Bool.{not, _&&_}
 use native.Mathlib.Nat.{mod-lt, zero-lt-suc, pow-suc}
 use native.Mathlib.Omega.{arith}
 use lib.Bits.{bitAnd}

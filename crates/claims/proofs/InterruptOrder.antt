@@ -1,7 +1,7 @@
 -- Step 7 takes the takeable interrupt before which no takeable one goes. Assumes nothing.
 use Prim.Native.Nat.{ℕ, suc, _<_}
 use mathlib.Core.Path.{_≡_, refl, sym, ap, _∙_}
-use mathlib.Core.Bool.{Bool, true, false, cond, _&&_, _||_}
+use mathlib.Core.Bool.{Bool, true, false, cond, _&&_}
 use mathlib.Core.List.{List, [], _∷_}
 use mathlib.Core.Logic.{inl, inr}
 use native.Mathlib.Omega.{arith}
@@ -29,7 +29,7 @@ use Rattle.engine.specs.Effects.{withRegisters, stepRule}
 use Rattle.hart.specs.declared.Hart.{Hart}
 use Rattle.hart.specs.declared.Stepped.{Stepped}
 use Rattle.hart.specs.Steps.{hartWith, handedBack, stepped}
-use Rattle.claims.specs.InterruptOrder.{delegated, mayTake, placeIn, Ordered, goesBefore, Takes, TakesNone, TakesFirst}
+use Rattle.claims.specs.InterruptOrder.{delegated, mayTake, placeIn, Ordered, goesBefore, TakesFirst}
 
 -- ---- the first of a list that passes a test
 

@@ -1,5 +1,5 @@
 -- Which interrupt step 7 takes, said of each interrupt for itself: 01, "Traps, returns, time", with the order of 02, [2].
-use Prim.Native.Nat.{ℕ, zero, suc, _<_}
+use Prim.Native.Nat.{ℕ, suc, _<_}
 use mathlib.Core.Path.{_≡_}
 use mathlib.Core.Bool.{Bool, true, false, cond, _&&_, _||_}
 use mathlib.Core.List.{List, [], _∷_}
@@ -7,7 +7,6 @@ use mathlib.Core.Logic.{_⊎_}
 use lib.Bits.{bitOr}
 use lib.Dec.{eqb, ltb}
 use Rattle.bits.specs.Mask.{testBit}
-use Rattle.steps.specs.declared.Level.{Level}
 use Rattle.steps.specs.declared.Level.the-variants.{Supervisor, Machine}
 use Rattle.steps.specs.declared.Trap.the-variants.{Interrupt}
 use Rattle.steps.specs.declared.Answer.the-variants.{DoneFlag}
@@ -50,19 +49,19 @@ goesBefore r j i =
     let earlier = ltb (placeIn order j) (placeIn order i) in
     cond (delegated r j) (delegated r i && earlier) (delegated r i || earlier)
 
+-- what is handed back where interrupt i is taken: entry to S if it is delegated, else to M, with trap value 0; the map as given; yes
+abbrev pub taking : Hart → Map → ℕ → Stepped
+taking h map i =
+    let r = h .state .registers in
+    handedBack (hartWith (withRegisters (h .state) (entered (cond (delegated r i) Supervisor Machine) (Interrupt i) 0 r))) map (DoneFlag true)
+
 -- the step takes an interrupt that is takeable, and none that goes before it is
 pub record Takes (h : Hart) (map : Map) (after : Stepped) : Type 0 where
   pub interrupt : ℕ
   pub ordered : Ordered interrupt
   pub takeable : mayTake (h .state .registers) interrupt ≡ true
   pub first : (j : ℕ) → Ordered j → goesBefore (h .state .registers) j interrupt ≡ true → mayTake (h .state .registers) j ≡ false
-  pub entry :
-      after
-      ≡ handedBack
-      (hartWith
-      (withRegisters (h .state)
-      (entered (cond (delegated (h .state .registers) interrupt) Supervisor Machine) (Interrupt interrupt) 0 (h .state .registers))))
-      map (DoneFlag true)
+  pub entry : after ≡ taking h map interrupt
 
 -- "if none is, it is no and nothing changes"
 pub record TakesNone (h : Hart) (map : Map) (after : Stepped) : Type 0 where

@@ -1,7 +1,7 @@
 -- The takeable interrupts bound for a level, as the bits of a word: those pending and enabled in mie, within mideleg for S and outside it for M,
 -- where the level admits them. Assumes nothing.
 use Prim.Native.Nat.{ℕ, _-_, _^_, _<_}
-use mathlib.Core.Path.{_≡_, refl, _∙_}
+use mathlib.Core.Path.{_≡_, refl}
 use mathlib.Core.Bool.{Bool, true, false, cond, not, _&&_, and-true, and-false}
 use native.Mathlib.Nat.{zero-div}
 use lib.Bits.{bitAnd}

@@ -1,6 +1,8 @@
-use mathlib.Core.Path.{sym, ap, _∙_}
+use mathlib.Core.Path.{_≡_, sym, _∙_}
+use mathlib.Core.Bool.{true}
 use borrow.Author.Needs.{needs}
 use borrow.Author.Tests.{not-true, not-false}
+use Rattle.trap.specs.Interrupt.{admits}
 use Rattle.trap.proofs.Takeable.{machine-set, supervisor-set, empty-set}
 use Rattle.trap.proofs.interrupt.takeable_set.Statement.{statement}
 use Rattle.trap.proofs.interrupt.takeable_set.Tie as tie
@@ -10,19 +12,22 @@ returns c =
     let a = c .before .before .before .before .args in
     empty-set (a .r) (a .level) (sym (c .before .admits .ensures) ∙ not-true _ (c .if1 .taken))
 
+admitted : (e : tie.Else1) → admits (e .before .before .before .before .args .level) (e .before .before .before .before .args .r) ≡ true
+admitted e = sym (e .before .admits .ensures) ∙ not-false _ (e .if1 .left)
+
 returns-2 : tie.Need-returns-2
 returns-2 c =
     let e = c .before .before .before in
-    let a = e .before .before .before .before .args in
-    rw (c .before .enum-told .given .1, e .before .before .before .pending-interrupts .ensures)
-    (machine-set (a .r) (rw (c .before .enum-told .given .1) at (sym (e .before .admits .ensures) ∙ not-false _ (e .if1 .left))) (search needs))
+    let p = e .before .before .before in
+    let level = c .before .enum-told .given .1 in
+    rw (level, p .pending-interrupts .ensures) (machine-set (p .before .args .r) (rw level at (admitted e)) (search needs))
 
 returns-3 : tie.Need-returns-3
 returns-3 c =
     let e = c .before .before .before in
-    let a = e .before .before .before .before .args in
-    rw (c .before .enum-told2 .given .1, e .before .before .before .pending-interrupts .ensures)
-    (supervisor-set (a .r) (rw (c .before .enum-told2 .given .1) at (sym (e .before .admits .ensures) ∙ not-false _ (e .if1 .left))))
+    let p = e .before .before .before in
+    let level = c .before .enum-told2 .given .1 in
+    rw (level, p .pending-interrupts .ensures) (supervisor-set (p .before .args .r) (rw level at (admitted e)))
 
 pub takeable-set-spec : {M : Type 1} → statement M
 takeable-set-spec =
