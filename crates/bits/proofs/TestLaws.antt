@@ -2,15 +2,12 @@
 use Prim.Native.Nat.{ℕ, zero, suc, _+_, _-_, _/_, _^_, _<_, min}
 use mathlib.Core.Path.{_≡_, refl, sym, ap, _∙_}
 use mathlib.Core.Bool.{not, _&&_}
-use native.Mathlib.Nat.{mod-lt, zero-lt-suc, pow-suc}
+use native.Mathlib.Nat.{pow-suc}
 use native.Mathlib.Omega.{arith}
 use lib.Bits.{bitAnd}
 use lib.Dec.{eqb}
 use Rattle.bits.specs.Mask.{testBit}
-use Rattle.bits.proofs.BitLaws.{bit, bit-and, half-bit}
-
-bit-lt : (a i : ℕ) → bit a i < 2
-bit-lt a i = mod-lt (a / 2 ^ i) (zero-lt-suc 1)
+use Rattle.bits.proofs.BitLaws.{bit, bit-lt, bit-and, half-bit}
 
 least-test : (x y : ℕ) → x < 2 → y < 2 → eqb (min x y) 1 ≡ (eqb x 1 && eqb y 1)
 least-test zero zero h k = refl

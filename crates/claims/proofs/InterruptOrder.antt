@@ -29,14 +29,14 @@ use Rattle.engine.specs.Effects.{withRegisters, stepRule}
 use Rattle.hart.specs.declared.Hart.{Hart}
 use Rattle.hart.specs.declared.Stepped.{Stepped}
 use Rattle.hart.specs.Steps.{hartWith, handedBack, stepped}
-use Rattle.claims.specs.InterruptOrder.{delegated, mayTake, placeIn, Ordered, goesBefore, TakesFirst}
+use Rattle.claims.specs.InterruptOrder.{delegated, mayTake, placeIn, InOrder, goesBefore, TakesFirst}
 
 -- ---- the first of a list that passes a test
 
 module _ (test : ℕ → Bool) (i : ℕ) where
   -- i has a place in the list
   placed : (xs : List ℕ) → firstOf test xs ≡ Take i → placeIn xs i < length xs
-  placed [] q = none-chosen test i q
+  placed [] q = none-chosen q
   placed (x ∷ xs) q =
       at-head test i (placeIn (x ∷ xs) i < length (x ∷ xs)) x xs (λ p e. rw (eq-eqb x i e) (omega arith))
       (λ p e. next (eqb x i) (placed xs e)) q
@@ -47,7 +47,7 @@ module _ (test : ℕ → Bool) (i : ℕ) where
 
   -- what comes before i fails
   earlier-fails : (j : ℕ) (xs : List ℕ) → firstOf test xs ≡ Take i → placeIn xs j < placeIn xs i → test j ≡ false
-  earlier-fails j [] q l = none-chosen test i q
+  earlier-fails j [] q l = none-chosen q
   earlier-fails j (x ∷ xs) q l =
       at-head test i (test j ≡ false) x xs (λ p e. absurd (omega (arith, rw (eq-eqb x i e) at l)))
       (λ p e. by-head (eqb x j) refl (eqb x i) refl p (earlier-fails j xs e)) q
@@ -64,46 +64,46 @@ all-fail test j (x ∷ xs) q l = go (test x) refl q (eqb x j) refl (all-fail tes
   where
     go : (b : Bool) → test x ≡ b → cond b (Take x) (firstOf test xs) ≡ Nothing → (c : Bool) → eqb x j ≡ c
         → (firstOf test xs ≡ Nothing → placeIn xs j < length xs → test j ≡ false) → test j ≡ false
-    go true p e c u later = let z : _≡_ {A = ℕ} 0 1 = cc in absurd (omega arith)
+    go true p e c u later = none-chosen (sym e)
     go false p e true u later = rw (eqb-true x j u) at p
     go false p e false u later = later e (omega (arith, rw u at l))
 
 -- ---- takeable, and bound for a level
 
 -- mideleg's bit of an interrupt bound for the level
-abbrev delegation : Level → Bool
-delegation Supervisor = true
-delegation Machine = false
+abbrev delegationBit : Level → Bool
+delegationBit Supervisor = true
+delegationBit Machine = false
 
 module _ (r : Registers) where
-  admitted : (d : Bool) → cond d (admits Supervisor r) (admits Machine r) ≡ admits (cond d Supervisor Machine) r
-  admitted true = refl
-  admitted false = refl
+  admits-either : (d : Bool) → cond d (admits Supervisor r) (admits Machine r) ≡ admits (cond d Supervisor Machine) r
+  admits-either true = refl
+  admits-either false = refl
 
   may-take : (i : ℕ) → mayTake r i ≡ takeable r i
   unfolding takeable
-  may-take i = ap (λ (a : Bool). testBit (pending r) i && (testBit (r .interrupts .mie) i && a)) (admitted (delegated r i))
+  may-take i = ap (λ (a : Bool). testBit (pending r) i && (testBit (r .interrupts .mie) i && a)) (admits-either (delegated r i))
 
-  level-of : (d : Bool) (level : Level) → eqb (levelNumber (cond d Supervisor Machine)) (levelNumber level) ≡ true → d ≡ delegation level
+  level-of : (d : Bool) (level : Level) → eqb (levelNumber (cond d Supervisor Machine)) (levelNumber level) ≡ true → d ≡ delegationBit level
   level-of true Supervisor e = refl
   level-of true Machine e = sym e
   level-of false Supervisor e = e
   level-of false Machine e = refl
 
-  bound-takeable : (level : Level) (i : ℕ) → takeableTo level r i ≡ true → (delegated r i ≡ delegation level) × (mayTake r i ≡ true)
+  bound-takeable : (level : Level) (i : ℕ) → takeableTo level r i ≡ true → (delegated r i ≡ delegationBit level) × (mayTake r i ≡ true)
   bound-takeable level i e = let w = both _ _ e in (level-of (delegated r i) level (w .0), may-take i ∙ w .1)
 
-  bound-fails : (level : Level) (j : ℕ) → delegated r j ≡ delegation level → takeableTo level r j ≡ false → mayTake r j ≡ false
+  bound-fails : (level : Level) (j : ℕ) → delegated r j ≡ delegationBit level → takeableTo level r j ≡ false → mayTake r j ≡ false
   bound-fails Supervisor j d e = may-take j ∙ rw d at e
   bound-fails Machine j d e = may-take j ∙ rw d at e
 
   -- what is claimed of a choice
   abbrev Right : Choice → Type 0
-  Right (Take i) = Ordered i × (mayTake r i ≡ true) × ((j : ℕ) → Ordered j → goesBefore r j i ≡ true → mayTake r j ≡ false)
-  Right Nothing = (j : ℕ) → Ordered j → mayTake r j ≡ false
+  Right (Take i) = InOrder i × (mayTake r i ≡ true) × ((j : ℕ) → InOrder j → goesBefore r j i ≡ true → mayTake r j ≡ false)
+  Right Nothing = (j : ℕ) → InOrder j → mayTake r j ≡ false
 
   module _ (level : Level) (i : ℕ) (q : firstOf (takeableTo level r) priority ≡ Take i) where
-    earlier : (j : ℕ) → delegated r j ≡ delegation level → ltb (placeIn priority j) (placeIn priority i) ≡ true → mayTake r j ≡ false
+    earlier : (j : ℕ) → delegated r j ≡ delegationBit level → ltb (placeIn priority j) (placeIn priority i) ≡ true → mayTake r j ≡ false
     earlier j d e = bound-fails level j d (earlier-fails (takeableTo level r) i j priority q (ltb-true _ _ e))
 
   chosen-right : (m s : Choice) → firstOf (takeableTo Machine r) priority ≡ m → firstOf (takeableTo Supervisor r) priority ≡ s → Right (orElse m s)
@@ -118,12 +118,12 @@ module _ (r : Registers) where
       let w = bound-takeable Supervisor i (passes (takeableTo Supervisor r) i priority q) in
       (placed (takeableTo Supervisor r) i priority q, w .1, λ j o b. by-level j o (delegated r j) refl (rw (w .0) at b))
     where
-      by-level : (j : ℕ) → Ordered j → (d : Bool) → delegated r j ≡ d → cond d (ltb (placeIn priority j) (placeIn priority i)) true ≡ true → mayTake r j ≡ false
+      by-level : (j : ℕ) → InOrder j → (d : Bool) → delegated r j ≡ d → cond d (ltb (placeIn priority j) (placeIn priority i)) true ≡ true → mayTake r j ≡ false
       by-level j o true d b = earlier Supervisor i q j d b
       by-level j o false d b = bound-fails Machine j d (all-fail (takeableTo Machine r) j priority p o)
   chosen-right Nothing Nothing p q = λ j o. by-level j o (delegated r j) refl
     where
-      by-level : (j : ℕ) → Ordered j → (d : Bool) → delegated r j ≡ d → mayTake r j ≡ false
+      by-level : (j : ℕ) → InOrder j → (d : Bool) → delegated r j ≡ d → mayTake r j ≡ false
       by-level j o true d = bound-fails Supervisor j d (all-fail (takeableTo Supervisor r) j priority q o)
       by-level j o false d = bound-fails Machine j d (all-fail (takeableTo Machine r) j priority p o)
 

@@ -1,4 +1,5 @@
--- Which interrupt step 7 takes, said of each interrupt for itself: 01, "Traps, returns, time", with the order of 02, [2].
+-- Which interrupt step 7 takes, said of each interrupt for itself and apart from the definitions of `trap`, but for the entry: 01, "Traps, returns, time",
+-- with the order of 02, [2].
 use Prim.Native.Nat.{ℕ, suc, _<_}
 use mathlib.Core.Path.{_≡_}
 use mathlib.Core.Bool.{Bool, true, false, cond, _&&_, _||_}
@@ -6,6 +7,7 @@ use mathlib.Core.List.{List, [], _∷_}
 use mathlib.Core.Logic.{_⊎_}
 use lib.Bits.{bitOr}
 use lib.Dec.{eqb, ltb}
+use lib.ListN.{length}
 use Rattle.bits.specs.Mask.{testBit}
 use Rattle.steps.specs.declared.Level.the-variants.{Supervisor, Machine}
 use Rattle.steps.specs.declared.Trap.the-variants.{Interrupt}
@@ -40,8 +42,8 @@ placeIn [] i = 0
 placeIn (x ∷ xs) i = cond (eqb x i) 0 (suc (placeIn xs i))
 
 -- i is one of the six
-abbrev pub Ordered : ℕ → Type 0
-Ordered i = placeIn order i < 6
+abbrev pub InOrder : ℕ → Type 0
+InOrder i = placeIn order i < length order
 
 -- j goes before i: j is bound for M and i for S, or both for one level and j comes first in the order
 abbrev pub goesBefore : Registers → ℕ → ℕ → Bool
@@ -58,14 +60,14 @@ taking h map i =
 -- the step takes an interrupt that is takeable, and none that goes before it is
 pub record Takes (h : Hart) (map : Map) (after : Stepped) : Type 0 where
   pub interrupt : ℕ
-  pub ordered : Ordered interrupt
+  pub ordered : InOrder interrupt
   pub takeable : mayTake (h .state .registers) interrupt ≡ true
-  pub first : (j : ℕ) → Ordered j → goesBefore (h .state .registers) j interrupt ≡ true → mayTake (h .state .registers) j ≡ false
+  pub first : (j : ℕ) → InOrder j → goesBefore (h .state .registers) j interrupt ≡ true → mayTake (h .state .registers) j ≡ false
   pub entry : after ≡ taking h map interrupt
 
 -- "if none is, it is no and nothing changes"
 pub record TakesNone (h : Hart) (map : Map) (after : Stepped) : Type 0 where
-  pub none : (j : ℕ) → Ordered j → mayTake (h .state .registers) j ≡ false
+  pub none : (j : ℕ) → InOrder j → mayTake (h .state .registers) j ≡ false
   pub unchanged : after ≡ handedBack h map (DoneFlag false)
 
 abbrev pub TakesFirst : Hart → Map → Stepped → Type 0

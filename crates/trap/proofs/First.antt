@@ -1,4 +1,5 @@
--- The first number of a list that passes a test, and the loop that looks for it: the numbers from i on decide as all do. Assumes nothing.
+-- The first number of a list that passes a test, and the loop that looks for it: the numbers from i on decide as all do; the interrupt that step 7
+-- chooses. Assumes nothing.
 use mathlib.Core.Path.{_≡_, refl}
 use mathlib.Core.Bool.{Bool, true, false, cond}
 use mathlib.Core.List.{List, [], _∷_}
@@ -32,10 +33,10 @@ module _ (test : ℕ → Bool) (xs : List ℕ) where
   pub first-none : (i : ℕ) → length xs ≤ i → firstOf test (drop i xs) ≡ firstOf test xs → Nothing ≡ firstOf test xs
   first-none i h e = rw (← e, drop-of-length-le xs h)
 
-module _ (test : ℕ → Bool) (i : ℕ) where
-  pub none-chosen : {P : Type 0} → Nothing ≡ Take i → P
-  none-chosen q = let z : _≡_ {A = ℕ} 0 1 = cc in absurd (omega arith)
+pub none-chosen : {P : Type 0} {i : ℕ} → Nothing ≡ Take i → P
+none-chosen q = let z : _≡_ {A = ℕ} 0 1 = cc in absurd (omega arith)
 
+module _ (test : ℕ → Bool) (i : ℕ) where
   -- the number chosen is the first of the list, or is chosen of the rest
   pub at-head : (P : Type 0) (x : ℕ) (xs : List ℕ) → (test x ≡ true → x ≡ i → P) → (test x ≡ false → firstOf test xs ≡ Take i → P)
       → firstOf test (x ∷ xs) ≡ Take i → P

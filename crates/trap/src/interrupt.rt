@@ -48,13 +48,13 @@ fn admits(level: Level, r: Registers) -> bool
 fn takeable_set(level: Level, r: Registers) -> u64
     ensures { λ s. ⌜ ((i : ℕ) → i < 64 → testBit s i ≡ takeableTo level r i) ⌝ }
 {
-    let enabled = pending_interrupts(r) & r.interrupts.mie;
     if !admits(level, r) {
         return 0;
     }
+    let pending_enabled = pending_interrupts(r) & r.interrupts.mie;
     match level {
-        Level::Machine => enabled & !r.interrupts.mideleg,
-        Level::Supervisor => enabled & r.interrupts.mideleg,
+        Level::Machine => pending_enabled & !r.interrupts.mideleg,
+        Level::Supervisor => pending_enabled & r.interrupts.mideleg,
     }
 }
 

@@ -15,7 +15,7 @@ pub struct Outcome {
     pub answer: Answer,
 }
 
-// What step 7 chooses: an interrupt to take, or none. The definition of the choice names it.
+// What step 7 chooses: an interrupt to take, or none. Public because laws of the crates above speak of it.
 pub enum Choice {
     Take(u64),
     Nothing,
