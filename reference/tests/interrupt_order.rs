@@ -13,7 +13,7 @@ const NO: Answer = Answer::Decision(false);
 
 /// What is delegated, then the interrupts bound for M and those bound for S,
 /// each in the order in which they are taken.
-const MIXED: [(u64, &[u64], &[u64]); 7] = [
+const DELEGATIONS: [(u64, &[u64], &[u64]); 7] = [
     (0x002, &[11, 3, 7, 9, 5], &[1]),
     (0x020, &[11, 3, 7, 9, 1], &[5]),
     (0x022, &[11, 3, 7, 9], &[1, 5]),
@@ -131,7 +131,7 @@ fn the_external_goes_to_s_where_none_bound_for_m_is_takeable() {
 
 #[test]
 fn all_bound_for_m_are_taken_before_any_bound_for_s() {
-    for (mideleg, machine, supervisor) in MIXED {
+    for (mideleg, machine, supervisor) in DELEGATIONS {
         for (mode, bits) in [(USER, 0), (SUPERVISOR, SIE)] {
             let mut given = all_pending(mode, bits, mideleg);
             take_in_order(&mut given, MACHINE, machine);
@@ -143,7 +143,7 @@ fn all_bound_for_m_are_taken_before_any_bound_for_s() {
 
 #[test]
 fn those_bound_for_s_wait_in_m_and_in_s_without_sie() {
-    for (mideleg, machine, _) in MIXED {
+    for (mideleg, machine, _) in DELEGATIONS {
         for (mode, bits) in [(SUPERVISOR, 0), (SUPERVISOR, MIE), (MACHINE, MIE | SIE)] {
             let mut given = all_pending(mode, bits, mideleg);
             take_in_order(&mut given, MACHINE, machine);

@@ -11,11 +11,19 @@ use crate::sizes::Sizes;
 /// Every delegation (3 bits), what is enabled and what pends (6 each), MIE and
 /// SIE, in three modes.
 const CHOICES: u64 = 3 << 17;
+/// In how many of the choices the single order of document 01 takes another
+/// interrupt than request [2] does: 6 settings of mode, MIE and SIE in which S
+/// takes interrupts (4 in U, 2 in S with SIE=1), times 3 * 3 * 3 = 27 ways in
+/// which none of 3, 7 and 11 is both enabled and pending, times 21 ways in which
+/// the first takeable of 9, 1 and 5 is delegated and a later one is not. Each of
+/// these has 8 ways: 6 not takeable, 1 takeable by M and 1 by S. So there are
+/// 8 * 8 - 7 * 7 = 15 ways with 9 first and 6 with 1 first.
+const TELLING_CHOICES: u64 = 6 * 27 * 21;
 /// The one interrupt that both a software bit and a line make pending.
 const SEI: u64 = 1 << 9;
 
 /// Every choice, each from a state that is random in all else. Gives how often
-/// the two orders differ.
+/// the two orders differ, which must be as often as counted by hand.
 pub fn walk(sizes: &Sizes) -> Result<Orders, Difference> {
     let mut orders = Orders::default();
     Stage::new("interrupts", sizes, sizes.walks * CHOICES).run(|random, case| {
@@ -26,6 +34,14 @@ pub fn walk(sizes: &Sizes) -> Result<Orders, Difference> {
         orders.count(&lent, words);
         compare_step(&lent, words)
     })?;
+    let expected = sizes.walks * TELLING_CHOICES;
+    if sizes.only.is_none() && orders.differing != expected {
+        return Err(Difference(format!(
+            "interrupts\nthe walks do not tell the two orders of interrupts apart as they must: \
+             they differ in {} cases, and must in {expected}",
+            orders.differing
+        )));
+    }
     Ok(orders)
 }
 

@@ -8,9 +8,10 @@
 //! place of a text with telling bytes. Should the product end the program,
 //! `loud` tells the case, and `only` what it was lent.
 //!
-//! The last line also tells how many steps 7 were compared, and in how many of
-//! them the single order of document 01 would have chosen another interrupt
-//! than request [2] does.
+//! The last line also tells how many accepted steps 7 were compared, and in how
+//! many of them the single order of document 01 would have chosen another
+//! interrupt than request [2] does. In each walk that must be exactly 3,402, or
+//! the comparison fails.
 
 mod calls;
 mod compare;

@@ -8,6 +8,8 @@ use reference::Hart;
 use crate::compare::Lent;
 
 pub const TAKE_INTERRUPT: u64 = 7;
+/// The list of document 01, written here apart from the model's own, so that the
+/// count does not lean on that.
 const SINGLE_ORDER: [u64; 6] = [11, 3, 7, 9, 1, 5];
 
 /// How many steps 7 were accepted, and in how many of them the single order
@@ -15,7 +17,7 @@ const SINGLE_ORDER: [u64; 6] = [11, 3, 7, 9, 1, 5];
 #[derive(Default)]
 pub struct Orders {
     steps: u64,
-    differing: u64,
+    pub differing: u64,
 }
 
 impl Orders {
