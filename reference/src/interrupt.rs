@@ -4,13 +4,13 @@ use crate::answer::{Answer, Cause};
 use crate::hart::{Hart, MACHINE, Mode, SUPERVISOR, USER};
 use crate::status;
 
-/// The order in which interrupts are taken.
+/// The order in which interrupts bound for one mode are taken.
 const PRIORITY: [u64; 6] = [11, 3, 7, 9, 1, 5];
 
 impl Hart {
-    /// Takes the first takeable interrupt, if there is one.
+    /// Takes the next interrupt, if one is takeable.
     pub(crate) fn take_interrupt(&mut self) -> Answer {
-        match PRIORITY.into_iter().find(|&code| self.takeable(code)) {
+        match self.next_interrupt() {
             Some(code) => {
                 let destination = self.interrupt_destination(code);
                 self.enter(Cause::Interrupt(code), 0, destination);
@@ -18,6 +18,17 @@ impl Hart {
             }
             None => Answer::Decision(false),
         }
+    }
+
+    /// The interrupt to take: the first takeable one bound for M, and where there
+    /// is none, the first bound for S (request [2] of document 02).
+    pub fn next_interrupt(&self) -> Option<u64> {
+        self.first_takeable(Mode::Machine).or_else(|| self.first_takeable(Mode::Supervisor))
+    }
+
+    fn first_takeable(&self, destination: Mode) -> Option<u64> {
+        let bound = |code: &u64| self.interrupt_destination(*code) == destination;
+        PRIORITY.into_iter().filter(bound).find(|&code| self.takeable(code))
     }
 
     /// Goes on without a stall, and says whether an enabled interrupt pends,
@@ -30,7 +41,9 @@ impl Hart {
         Answer::Decision(self.pending() & self.mie != 0)
     }
 
-    fn takeable(&self, code: u64) -> bool {
+    /// Whether the interrupt pends, is enabled, and may interrupt the mode the
+    /// hart is in.
+    pub fn takeable(&self, code: u64) -> bool {
         let enabled = self.pending() & self.mie;
         enabled >> code & 1 == 1
             && match self.interrupt_destination(code) {

@@ -1,5 +1,6 @@
 //! An independent model of the leased hart, written from the scope document
-//! alone, for comparison with the product and as its speed baseline.
+//! and its change requests alone, for comparison with the product and as its
+//! speed baseline.
 #![deny(unsafe_code)]
 
 mod answer;

@@ -29,6 +29,19 @@ fn states_made_to_be_held_can_be_and_damaged_ones_mostly_cannot() {
 }
 
 #[test]
+fn mixed_delegation_often_tells_request_2_from_the_single_order_of_01() {
+    let told_apart = (0..STATES)
+        .map(|seed| generate::mixed_delegation(&mut Random::new(seed)))
+        .filter(|hart| {
+            assert!(hart.can_hold());
+            let single = [11, 3, 7, 9, 1, 5].into_iter().find(|&code| hart.takeable(code));
+            hart.next_interrupt() != single
+        })
+        .count() as u64;
+    assert!(told_apart > STATES / 5, "{told_apart} of {STATES}");
+}
+
+#[test]
 fn steps_keep_what_a_hart_can_hold_and_the_map_of_its_registers() {
     for (mut random, mut hart) in states() {
         let mut map = hart.compile();

@@ -170,7 +170,7 @@ fn b21_what_is_takeable() {
 }
 
 #[test]
-fn b21_the_single_order() {
+fn b21_the_order_without_delegation() {
     let mut given = Hart { mie: 0xAAA, mip: 0x222, lines: 0xA88, ..in_mode(USER) };
     for code in [11, 3, 7, 9, 1, 5] {
         let (hart, answer) = run(&given, TAKE, 0, 0);

@@ -5,7 +5,7 @@ use mathlib.Core.Bool.{Bool, true, false, not, _&&_, _||_}
 use mathlib.Core.List.{List, [], _∷_}
 use mathlib.Core.Logic.{⊎-elim}
 use Prim.Native.Nat.{ℕ, zero, suc, _+_, _/_, _%_, _^_, _≤_, _<_, min, max}
-use native.Mathlib.Nat.{zero-div, div-eq-of-lt, lt-of-lt-of-le, eq-or-lt-of-le, le-of-suc-le-suc, not-suc-le-zero, mod-lt, zero-lt-suc}
+use native.Mathlib.Nat.{zero-div, div-eq-of-lt, lt-of-lt-of-le, eq-or-lt-of-le, le-of-suc-le-suc, not-suc-le-zero}
 use native.Mathlib.Omega.{arith}
 use borrow.Author.Tests.{eq-eqb, eqb-true, ltb-true, ltb-false}
 use lib.Bits.{bitAnd, bitOr}
@@ -13,7 +13,7 @@ use lib.Dec.{eqb, ltb}
 use lib.Pow.{pow-mono}
 use lib.ListN.{length, getD}
 use Rattle.bits.proofs.Conjunction.{both}
-use Rattle.bits.proofs.BitLaws.{bit, bit-and, bit-or, ext}
+use Rattle.bits.proofs.BitLaws.{bit, bit-lt, bit-and, bit-or, ext}
 
 pub data E : Type 0 where
   lit : ℕ → E
@@ -86,7 +86,7 @@ envs-sound k [] P t = t
 envs-sound k (x ∷ xs) P t =
     let w = both _ _ t in
     digit (λ (b : ℕ). P (b ∷ bitsAt k xs) ≡ true) (envs-sound k xs (λ β. P (0 ∷ β)) (w .0)) (envs-sound k xs (λ β. P (1 ∷ β)) (w .1)) (bit x k)
-    (mod-lt (x / 2 ^ k) (zero-lt-suc 1))
+    (bit-lt x k)
 
 -- ---- every place of a bit
 abbrev pub upto : ℕ → (ℕ → Bool) → Bool

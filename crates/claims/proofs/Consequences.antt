@@ -1,4 +1,4 @@
--- Sentences of 01 that rest on more than one definition hold. Assumes nothing.
+-- Sentences of 01 and 02 that rest on more than one definition hold. Assumes nothing.
 use Prim.Native.Nat.{ℕ}
 use mathlib.Core.Path.{_≡_, refl, _∙_}
 use mathlib.Core.List.{List, [], _∷_}
@@ -25,6 +25,7 @@ use Rattle.claims.specs.SavedLines.{keyed, keyedText, resetLines, joined
 use Rattle.claims.specs.Consequences.{LowestOwner, Consequences}
 use Rattle.claims.proofs.OneValue.{zero-step, zero-readable, misa-step, fixed-step, fixed-writable, lowest-first, config-steps}
 use Rattle.claims.proofs.Counting.{mcycle-left, minstret-left, elapsed-counts}
+use Rattle.claims.proofs.InterruptOrder.{takes-first}
 use Rattle.claims.proofs.OneAccess.{one-load, one-store, one-fetch}
 use Rattle.claims.proofs.Deciding.{entry-decides, cause-for, none-decides, effective-mode}
 use Rattle.claims.proofs.Querying.{count-read, range-found, range-missing, sizes, query-decides, query-beyond}
@@ -75,6 +76,7 @@ consequences =
       elapsed-counts = elapsed-counts;
       mcycle-left = mcycle-left;
       minstret-left = minstret-left;
+      takes-first = takes-first;
       load = one-load;
       store = one-store;
       fetch = one-fetch;

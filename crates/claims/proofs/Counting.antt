@@ -2,7 +2,6 @@
 use Prim.Native.Nat.{ℕ}
 use mathlib.Core.Path.{_≡_, refl, sym, ap, _∙_}
 use mathlib.Core.Bool.{Bool, true, false, cond, not, _&&_, true≢false, and-true}
-use mathlib.Core.List.{List, [], _∷_}
 use lib.Dec.{eqb, leb, ltb}
 use Rattle.bits.specs.Mask.{within}
 use Rattle.bits.proofs.Conjunction.{by-test}
@@ -32,9 +31,11 @@ use Rattle.state.specs.Hold.{canHold}
 use Rattle.csr.specs.Permit.{attemptsWrite, illegal}
 use Rattle.csr.specs.Store.{registersWritten}
 use Rattle.csr.specs.Operate.{registersOperated}
+use Rattle.trap.specs.declared.Choice.{Choice}
+use Rattle.trap.specs.declared.Choice.the-variants.{Take, Nothing}
 use Rattle.trap.specs.declared.Outcome.{Outcome}
 use Rattle.trap.specs.Enter.{destination, entered, raised, raiseStep}
-use Rattle.trap.specs.Interrupt.{linesStep, takeable, firstOf, priority, takenBy, interruptTaken}
+use Rattle.trap.specs.Interrupt.{linesStep, machineBoundFirst, takenBy, interruptTaken}
 use Rattle.trap.specs.Return.{returned, mayReturn, returnStep, mayWait, waited}
 use Rattle.trap.specs.Time.{advanced, elapsed}
 use Rattle.trap.specs.Events.{eventStep}
@@ -61,10 +62,9 @@ module _ (r : Registers) where
   unfolding raised
   raised-leaves cause tval = entered-leaves (destination r (Exception cause)) (Exception cause) tval r
 
-  taken-leaves : (test : ℕ → Bool) (l : List ℕ) → Leaves r (takenBy r (firstOf test l))
-  taken-leaves test [] = refl
-  taken-leaves test (i ∷ l) =
-      by-test (λ c. Leaves r (takenBy r c)) (test i) _ _ (λ t. entered-leaves (destination r (Interrupt i)) (Interrupt i) 0 r) (λ t. taken-leaves test l)
+  taken-leaves : (choice : Choice) → Leaves r (takenBy r choice)
+  taken-leaves (Take i) = entered-leaves (destination r (Interrupt i)) (Interrupt i) 0 r
+  taken-leaves Nothing = refl
 
   return-leaves : (level : Level) → Leaves r (returnStep level r)
   unfolding returnStep returned
@@ -74,7 +74,7 @@ module _ (r : Registers) where
   unfolding raiseStep linesStep interruptTaken waited advanced
   event-leaves (Raise cause tval) e = by-test (Leaves r) (leb cause 7) _ _ (λ t. raised-leaves cause tval) (λ t. refl)
   event-leaves (Lines lines) e = by-test (Leaves r) (within linesMask lines) _ _ (λ t. refl) (λ t. refl)
-  event-leaves TakeInterrupt e = taken-leaves (takeable r) priority
+  event-leaves TakeInterrupt e = taken-leaves (machineBoundFirst r)
   event-leaves Mret e = return-leaves Machine
   event-leaves Sret e = return-leaves Supervisor
   event-leaves Wfi e = by-test (Leaves r) (mayWait r) _ _ (λ t. refl) (λ t. raised-leaves 2 0)

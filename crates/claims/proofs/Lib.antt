@@ -8,6 +8,7 @@ pub mod AfterRun
 pub mod Worked
 pub mod OneValue
 pub mod Counting
+pub mod InterruptOrder
 pub mod OneAccess
 pub mod Deciding
 pub mod Querying

@@ -1,4 +1,4 @@
--- W1 to W12 hold of the definitions, by computation. Assumes nothing.
+-- The worked settings hold of the definitions, by computation. Assumes nothing.
 use mathlib.Core.Path.{refl}
 use Rattle.bits.specs.Lists.{all}
 use Rattle.pmp.specs.Search.{lowest, anyByte, everyByte}
@@ -19,4 +19,4 @@ pub worked : AllRight settings
 unfolding lowest anyByte everyByte trailingOnes spanOf lowestMatch byteRule checked painted rangesOf
     registersHoldable pmpHoldable all enteredStatus entered takeable interruptTaken returnedStatus returned returnStep elapsed canHold stepRule
 worked =
-    (λ mode access. refl, (refl, (refl, (refl, (refl, (refl, (refl, (refl, (refl, (refl, (refl, (refl, (refl, (refl, (refl, (refl, (refl, tt)))))))))))))))))
+    (λ mode access. refl, (refl, (refl, (refl, (refl, (refl, (refl, (refl, (refl, (refl, (refl, (refl, (refl, (refl, (refl, (refl, (refl, (refl, (refl, tt)))))))))))))))))))

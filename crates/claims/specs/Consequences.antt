@@ -1,5 +1,5 @@
--- Sentences of 01 that rest on more than one definition, each as a law in 01's own numbers: registers of one value, the counters, accesses,
--- the saved text, the map.
+-- Sentences of 01 and 02 that rest on more than one definition, each as a law in 01's own numbers: registers of one value, the counters, interrupts,
+-- accesses, the saved text, the map.
 use Prim.Native.Nat.{ℕ, _+_, _*_, _/_, _%_, _^_, _≤_, _<_}
 use mathlib.Core.Path.{_≡_}
 use mathlib.Core.Bool.{Bool, true, false, cond, not, _&&_, _||_}
@@ -51,6 +51,7 @@ use Rattle.hart.specs.declared.Stepped.{Stepped}
 use Rattle.hart.specs.Steps.{hartWith, handedBack, stepped}
 use Rattle.hart.specs.Queries.{queryAnswer}
 use Rattle.hart.specs.Saved.{textFor}
+use Rattle.claims.specs.InterruptOrder.{TakesFirst}
 use Rattle.claims.specs.SavedLines.{keyed, keyedText, resetLines, joined}
 
 -- ---- registers of one value
@@ -221,6 +222,8 @@ pub record Consequences : Type 0 where
       → stepped h map (EventStep (Elapsed cycles retired)) ≡ handedBack (hartWith (elapsedBy h cycles retired)) map Done
   pub mcycle-left : OthersLeave 0xB00 (λ c. c .mcycle)
   pub minstret-left : OthersLeave 0xB02 (λ c. c .minstret)
+  -- 02, [2]: "first the takeable ones bound for M in 01's order, then those for S in that order"
+  pub takes-first : (h : Hart) (map : Map) → canHold (h .state) ≡ true → TakesFirst h map (stepped h map (EventStep TakeInterrupt))
   -- "A misaligned load or store is one access (house). A granted access changes nothing." "Faults: fetch 1, load 5, store 7, tval the first byte's address."
   pub load : (h : Hart) (map : Map) (address size : ℕ) → canHold (h .state) ≡ true → isSize size ≡ true
       → OneAccess h map Load 5 address size (stepped h map (AccessStep Load address size))

@@ -6,5 +6,6 @@ pub mod Texts
 pub mod Faithful
 pub mod AfterRun
 pub mod Worked
+pub mod InterruptOrder
 pub mod SavedLines
 pub mod Consequences

@@ -1,4 +1,4 @@
--- 01, "Hand-checked settings": W1 to W12 as one table.
+-- 01, "Hand-checked settings", W1 to W12, and 02's own case of [2], as one table.
 use Prim.Native.Nat.{ℕ, zero, suc, _+_, _-_, _*_, _^_}
 use mathlib.Core.Path.{_≡_}
 use mathlib.Core.List.{List, [], _∷_}
@@ -14,7 +14,7 @@ use Rattle.steps.specs.declared.Step.{Step}
 use Rattle.steps.specs.declared.Step.the-variants.{Event as EventStep}
 use Rattle.registers.specs.declared.Registers.{Registers}
 use Rattle.registers.specs.Hold.{resetRegisters}
-use Rattle.registers.specs.Update.{withStatus, withCounters}
+use Rattle.registers.specs.Update.{withFlow, withStatus, withInterrupts, withCounters}
 use Rattle.protection.specs.Hold.{resetPmp}
 use Rattle.map.specs.declared.Range.{Range}
 use Rattle.map.specs.Ranges.{range}
@@ -83,6 +83,10 @@ interrupted mtvec =
       supervisor = resetRegisters .supervisor;
     }
 
+-- in S with SIE=1: SEI (9) delegated, STI (5) not, both pending and enabled
+abbrev pub contested : Registers
+contested = withInterrupts (withFlow resetRegisters 1 0x1000 0xA00000002) 0x200 0x220 0x20 0x200
+
 -- mcycle alone set
 abbrev pub cycling : ℕ → Registers
 cycling mcycle = withCounters resetRegisters 0 mcycle 0
@@ -114,4 +118,7 @@ settings =
     -- W12
     ∷ leaves (cycling (2 ^ 64 - 1)) (EventStep (Elapsed 1 0)) (λ r. r .counters .mcycle) 0
     ∷ leaves (cycling 0) (EventStep (Elapsed 70000 0)) (λ r. r .counters .mcycle) 70000
+    -- [2]: STI is taken, to M
+    ∷ leaves contested (EventStep TakeInterrupt) (λ r. r .machine .cause) (2 ^ 63 + 5)
+    ∷ leaves contested (EventStep TakeInterrupt) (λ r. r .mode) 3
     ∷ []

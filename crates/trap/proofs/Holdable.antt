@@ -28,7 +28,7 @@ use Rattle.trap.specs.declared.Choice.{Choice}
 use Rattle.trap.specs.declared.Choice.the-variants.{Take, Nothing}
 use Rattle.trap.specs.declared.Outcome.{Outcome}
 use Rattle.trap.specs.Enter.{destination, base, handler, trapRecorded, entered, raised, raiseStep, illegalInstruction}
-use Rattle.trap.specs.Interrupt.{linesStep, takeable, firstOf, priority, takenBy, interruptTaken}
+use Rattle.trap.specs.Interrupt.{linesStep, machineBoundFirst, takenBy, interruptTaken}
 use Rattle.trap.specs.Return.{returned, mayReturn, returnStep, mayWait, nextPc, waited}
 use Rattle.trap.specs.Time.{advanced, elapsed}
 use Rattle.trap.specs.Events.{eventStep}
@@ -99,9 +99,9 @@ module _ (r : Registers) (p : registersHoldable r ≡ true) where
   pub pc-holdable : (pc : ℕ) → aligned pc ≡ true → registersHoldable (withPc r pc) ≡ true
   pc-holdable pc a = let k = held r p in flow-kept r p _ _ _ (k .mode) a (k .mstatus)
 
-  taken-by-holdable : (choice : Choice) → firstOf (takeable r) priority ≡ choice → Holdable (takenBy r choice)
+  taken-by-holdable : (choice : Choice) → machineBoundFirst r ≡ choice → Holdable (takenBy r choice)
   taken-by-holdable (Take i) e =
-      entered-holdable (destination r (Interrupt i)) (Interrupt i) 0 r p (interrupt-within i (chosen (takeable r) i e .0))
+      entered-holdable (destination r (Interrupt i)) (Interrupt i) 0 r p (interrupt-within i (chosen r i e))
   taken-by-holdable Nothing e = p
 
   return-step-holdable : (level : Level) → Holdable (returnStep level r)
@@ -120,7 +120,7 @@ module _ (r : Registers) (p : registersHoldable r ≡ true) where
   event-holdable (Lines lines) =
       let k = held r p in
       by-test Holdable (within linesMask lines) _ _ (λ t. interrupts-kept r p _ _ _ _ (k .mideleg) (k .mie) (k .mip) t) (λ t. p)
-  event-holdable TakeInterrupt = taken-by-holdable (firstOf (takeable r) priority) refl
+  event-holdable TakeInterrupt = taken-by-holdable (machineBoundFirst r) refl
   event-holdable Mret = return-step-holdable Machine
   event-holdable Sret = return-step-holdable Supervisor
   event-holdable Wfi =

@@ -1,5 +1,6 @@
 -- The laws that the proofs and the crates above cite.
 pub mod First
+pub mod Takeable
 pub mod Status
 pub mod Holdable
 pub mod Quiet

@@ -16,7 +16,7 @@ use Rattle.trap.specs.declared.Choice.{Choice}
 use Rattle.trap.specs.declared.Choice.the-variants.{Take, Nothing}
 use Rattle.trap.specs.declared.Outcome.{Outcome}
 use Rattle.trap.specs.Enter.{raised, raiseStep}
-use Rattle.trap.specs.Interrupt.{linesStep, takeable, firstOf, priority, takenBy, interruptTaken}
+use Rattle.trap.specs.Interrupt.{linesStep, machineBoundFirst, takenBy, interruptTaken}
 use Rattle.trap.specs.Return.{mayReturn, returnStep, mayWait, waited}
 use Rattle.trap.specs.Time.{advanced, elapsed}
 use Rattle.trap.specs.Events.{eventStep}
@@ -41,7 +41,7 @@ module _ (r : Registers) where
   unfolding raiseStep linesStep interruptTaken waited advanced elapsed
   event-plain (Raise cause tval) = by-test Plain (leb cause 7) _ _ (λ t. raised-plain cause tval) (λ t. refl)
   event-plain (Lines lines) = by-test Plain (within linesMask lines) _ _ (λ t. refl) (λ t. refl)
-  event-plain TakeInterrupt = taken-plain (firstOf (takeable r) priority)
+  event-plain TakeInterrupt = taken-plain (machineBoundFirst r)
   event-plain Mret = return-plain Machine
   event-plain Sret = return-plain Supervisor
   event-plain Wfi = by-test Plain (mayWait r) _ _ (λ t. refl) (λ t. raised-plain 2 0)

@@ -19,7 +19,7 @@ use Rattle.trap.specs.declared.Choice.the-variants.{Take, Nothing}
 use Rattle.trap.specs.declared.Outcome.{Outcome}
 use Rattle.trap.specs.Refusal.{refusedStep}
 use Rattle.trap.specs.Enter.{raised, raiseStep}
-use Rattle.trap.specs.Interrupt.{linesStep, takeable, firstOf, priority, takenBy, interruptTaken}
+use Rattle.trap.specs.Interrupt.{linesStep, machineBoundFirst, takenBy, interruptTaken}
 use Rattle.trap.specs.Return.{mayReturn, returnStep, mayWait, waited}
 use Rattle.trap.specs.Time.{advanced, elapsed}
 use Rattle.trap.specs.Events.{eventStep}
@@ -73,7 +73,7 @@ module _ (r : Registers) where
   unfolding raiseStep linesStep interruptTaken waited advanced elapsed
   event-quiet (Raise cause tval) = unless-refused (leb cause 7) _ (raised-quiet cause tval)
   event-quiet (Lines lines) = unless-refused (within linesMask lines) _ refl
-  event-quiet TakeInterrupt = taken-quiet (firstOf (takeable r) priority)
+  event-quiet TakeInterrupt = taken-quiet (machineBoundFirst r)
   event-quiet Mret = return-quiet Machine
   event-quiet Sret = return-quiet Supervisor
   event-quiet Wfi = by-test (Quiet r false) (mayWait r) _ _ (λ t. refl) (λ t. raised-quiet 2 0)

@@ -1,4 +1,4 @@
--- 01, "Traps, returns, time": step 7, take interrupt; and "Steps": lines.
+-- 01, "Traps, returns, time": step 7, take interrupt, with the order of 02, [2]; and "Steps": lines.
 use Prim.Native.Nat.{ℕ}
 use mathlib.Core.Bool.{Bool, true, false, cond, _&&_, _||_}
 use mathlib.Core.List.{List, [], _∷_}
@@ -8,6 +8,7 @@ use Rattle.steps.specs.declared.Level.{Level}
 use Rattle.steps.specs.declared.Level.the-variants.{Supervisor, Machine}
 use Rattle.steps.specs.declared.Trap.the-variants.{Interrupt}
 use Rattle.steps.specs.declared.Answer.the-variants.{Done, DoneFlag}
+use Rattle.steps.specs.Number.{levelNumber}
 use Rattle.registers.specs.declared.Registers.{Registers}
 use Rattle.registers.specs.Masks.{linesMask}
 use Rattle.registers.specs.Status.{enabled, pending}
@@ -37,6 +38,10 @@ admits Supervisor r = eqb (r .mode) 0 || (eqb (r .mode) 1 && enabled Supervisor 
 unfoldable pub takeable : Registers → ℕ → Bool
 takeable r i = testBit (pending r) i && (testBit (r .interrupts .mie) i && admits (destination r (Interrupt i)) r)
 
+-- interrupt i is bound for the level, and takeable
+abbrev pub takeableTo : Level → Registers → ℕ → Bool
+takeableTo level r i = eqb (levelNumber (destination r (Interrupt i))) (levelNumber level) && takeable r i
+
 -- the first number of the list that passes the test
 abbrev pub firstOf : (ℕ → Bool) → List ℕ → Choice
 firstOf test [] = Nothing
@@ -46,10 +51,19 @@ firstOf test (i ∷ l) = cond (test i) (Take i) (firstOf test l)
 abbrev pub priority : List ℕ
 priority = 11 ∷ 3 ∷ 7 ∷ 9 ∷ 1 ∷ 5 ∷ []
 
--- the first takeable is taken, and the answer is yes; if none is, it is no and nothing changes
+-- the first choice, or the second where the first is none
+abbrev pub orElse : Choice → Choice → Choice
+orElse (Take i) second = Take i
+orElse Nothing second = second
+
+-- 02, [2]: first the takeable ones bound for M in 01's order, then those for S in that order
+abbrev pub machineBoundFirst : Registers → Choice
+machineBoundFirst r = orElse (firstOf (takeableTo Machine r) priority) (firstOf (takeableTo Supervisor r) priority)
+
+-- the first is taken, and the answer is yes; if there is none, it is no and nothing changes
 abbrev pub takenBy : Registers → Choice → Outcome
 takenBy r (Take i) = record { registers = entered (destination r (Interrupt i)) (Interrupt i) 0 r; answer = DoneFlag true }
 takenBy r Nothing = record { registers = r; answer = DoneFlag false }
 
 unfoldable pub interruptTaken : Registers → Outcome
-interruptTaken r = takenBy r (firstOf (takeable r) priority)
+interruptTaken r = takenBy r (machineBoundFirst r)

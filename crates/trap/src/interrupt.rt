@@ -14,7 +14,9 @@ use steps::Answer;
 use steps::Level;
 use steps::Trap;
 ghost use mathlib.Core.Path.{_≡_};
-ghost use Rattle.trap.specs.Interrupt.{linesStep, admits, takeable, firstOf, priority, interruptTaken};
+ghost use Prim.Native.Nat.{ℕ, _<_};
+ghost use Rattle.bits.specs.Mask.{testBit};
+ghost use Rattle.trap.specs.Interrupt.{linesStep, admits, takeableTo, firstOf, priority, machineBoundFirst, interruptTaken};
 
 // Replaces the lines; bits that are no lines are refused.
 pub fn lines_step(r: Registers, lines: u64) -> Outcome
@@ -42,22 +44,29 @@ fn admits(level: Level, r: Registers) -> bool
     }
 }
 
-fn is_takeable(r: Registers, number: u64) -> bool
-    ensures { λ b. ⌜ b ≡ takeable r number ⌝ }
+// The takeable interrupts bound for the level, a bit for each.
+fn takeable_set(level: Level, r: Registers) -> u64
+    ensures { λ s. ⌜ ((i : ℕ) → i < 64 → testBit s i ≡ takeableTo level r i) ⌝ }
 {
-    let level = trap_level(r, Trap::Interrupt(number));
-    has_bit(pending_interrupts(r), number) & (has_bit(r.interrupts.mie, number) & admits(level, r))
+    if !admits(level, r) {
+        return 0;
+    }
+    let pending_enabled = pending_interrupts(r) & r.interrupts.mie;
+    match level {
+        Level::Machine => pending_enabled & !r.interrupts.mideleg,
+        Level::Supervisor => pending_enabled & r.interrupts.mideleg,
+    }
 }
 
-// The first takeable interrupt.
-fn first_takeable(r: Registers) -> Choice
-    ensures { λ c. ⌜ c ≡ firstOf (takeable r) priority ⌝ }
+// The first interrupt of the set in the order of priority.
+fn first_by_priority(set: u64) -> Choice
+    ensures { λ c. ⌜ c ≡ firstOf (testBit set) priority ⌝ }
 {
     let order: [u64; 6] = [11, 3, 7, 9, 1, 5];
     let mut i: usize = 0;
     while i < 6 {
         let number = order[i];
-        if is_takeable(r, number) {
+        if has_bit(set, number) {
             return Choice::Take(number);
         }
         i += 1;
@@ -65,10 +74,23 @@ fn first_takeable(r: Registers) -> Choice
     Choice::Nothing
 }
 
+// Whatever the order says, an interrupt bound for M goes before any bound for S.
+fn machine_bound_first(r: Registers) -> Choice
+    ensures { λ c. ⌜ c ≡ machineBoundFirst r ⌝ }
+{
+    let machine = takeable_set(Level::Machine, r);
+    let supervisor = takeable_set(Level::Supervisor, r);
+    let first = first_by_priority(machine);
+    match first {
+        Choice::Take(number) => Choice::Take(number),
+        Choice::Nothing => first_by_priority(supervisor),
+    }
+}
+
 pub fn take_interrupt(r: Registers) -> Outcome
     ensures { λ o. ⌜ o ≡ interruptTaken r ⌝ }
 {
-    let choice = first_takeable(r);
+    let choice = machine_bound_first(r);
     match choice {
         Choice::Take(number) => {
             let trap = Trap::Interrupt(number);

@@ -15,8 +15,8 @@ pub struct Outcome {
     pub answer: Answer,
 }
 
-// An interrupt to take, or none.
-enum Choice {
+// What step 7 chooses: an interrupt to take, or none. Public because laws of the crates above speak of it.
+pub enum Choice {
     Take(u64),
     Nothing,
 }

@@ -2,12 +2,14 @@
 
 mod address;
 mod entries;
+mod interrupts;
 mod map;
 mod state;
 mod step;
 mod text;
 
 pub use address::address;
+pub use interrupts::mixed_delegation;
 pub use map::map;
 pub use state::{damaged, holdable};
 pub use step::{csr_operand, size, step};

@@ -15,7 +15,10 @@ pub struct Lent {
 impl Lent {
     /// A state, most often one a hart can hold, and a map, lawful or not.
     pub fn random(random: &mut Random) -> Lent {
-        let held = generate::holdable(random);
+        let held = match random.below(4) {
+            0 => generate::mixed_delegation(random),
+            _ => generate::holdable(random),
+        };
         let map = generate::map(random, &held).to_words();
         let hart = if random.once_in(8) { generate::damaged(random) } else { held.to_words() };
         Lent { hart, map }

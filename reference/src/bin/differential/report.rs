@@ -9,7 +9,8 @@ use reference::{HART_WORDS, KEYS, MAP_WORDS, Map, NONE};
 
 use crate::sizes::Sizes;
 
-/// What was called, and where the two programs differ.
+/// What was called, and where the two programs differ; or what the comparison
+/// itself lacks.
 pub struct Difference(pub String);
 
 impl Display for Difference {

@@ -4,20 +4,22 @@ use reference::random::Random;
 use reference::{Hart, Map, capi};
 
 use crate::compare::{Lent, map_difference, result_difference};
+use crate::orders::Orders;
 use crate::report::{Difference, Stage, show};
 use crate::sizes::Sizes;
 use crate::steps::random_step;
 
-/// Gives the number of steps in all runs together.
-pub fn random(sizes: &Sizes) -> Result<u64, Difference> {
-    let mut steps = 0;
+/// Gives the number of steps in all runs together, and how often the two orders
+/// of interrupts differ.
+pub fn random(sizes: &Sizes) -> Result<(u64, Orders), Difference> {
+    let (mut steps, mut orders) = (0, Orders::default());
     Stage::new("runs", sizes, sizes.runs).run(|random, _| {
         let start = random_start(random);
         let length = if random.once_in(50) { random.below(1000) } else { random.below(60) };
         steps += length;
-        compare_run(random, &start, length)
+        compare_run(random, &start, length, &mut orders)
     })?;
-    Ok(steps)
+    Ok((steps, orders))
 }
 
 fn random_start(random: &mut Random) -> Lent {
@@ -27,12 +29,18 @@ fn random_start(random: &mut Random) -> Lent {
     }
 }
 
-fn compare_run(random: &mut Random, start: &Lent, length: u64) -> Result<(), String> {
+fn compare_run(
+    random: &mut Random,
+    start: &Lent,
+    length: u64,
+    orders: &mut Orders,
+) -> Result<(), String> {
     let (mut expected, mut found) = (start.clone(), start.clone());
     let (mut steps, mut answers) = (Vec::new(), Vec::new());
     let mut made_anew = false;
     for place in 0..length {
         let words = random_step(random, &expected);
+        orders.count(&expected, words);
         steps.extend(words);
         let told = |text| tell(start, &steps, &format!("step {place} of the list\n{text}"));
         let after = expected.reference_step(words);

@@ -4,6 +4,7 @@ use reference::random::Random;
 use reference::{Hart, MACHINE, Map, SUPERVISOR, USER, generate};
 
 use crate::compare::{Lent, compare_step};
+use crate::orders::{Orders, TAKE_INTERRUPT};
 use crate::report::{Difference, Stage};
 use crate::sizes::Sizes;
 
@@ -28,15 +29,24 @@ pub fn walk(sizes: &Sizes) -> Result<u64, Difference> {
     Ok(steps)
 }
 
-/// Any steps from any states, with any maps.
-pub fn random(sizes: &Sizes) -> Result<(), Difference> {
+/// Any steps from any states, with any maps. Gives how often the two orders of
+/// interrupts differ.
+pub fn random(sizes: &Sizes) -> Result<Orders, Difference> {
+    let mut orders = Orders::default();
     Stage::new("steps", sizes, sizes.steps).run(|random, _| {
         let lent = Lent::random(random);
-        compare_step(&lent, random_step(random, &lent))
-    })
+        let words = random_step(random, &lent);
+        orders.count(&lent, words);
+        compare_step(&lent, words)
+    })?;
+    Ok(orders)
 }
 
-/// A step that suits the state and the map.
+/// A step that suits the state and the map: often step 7 where it has a choice.
 pub fn random_step(random: &mut Random, lent: &Lent) -> [u64; 3] {
-    generate::step(random, &Hart::from_words(&lent.hart), &Map::from_words(&lent.map))
+    let hart = Hart::from_words(&lent.hart);
+    let [number, a, b] = generate::step(random, &hart, &Map::from_words(&lent.map));
+    let takeable = (0..12).filter(|&code| hart.takeable(code)).count();
+    let number = if takeable > 1 && random.once_in(4) { TAKE_INTERRUPT } else { number };
+    [number, a, b]
 }

@@ -3,6 +3,7 @@
 //! replay does not start at reset, `start`.
 
 mod broken;
+mod interrupts;
 mod protection;
 mod registers;
 mod traps;
@@ -40,6 +41,12 @@ fn failure(message: &str) -> ExitCode {
 }
 
 fn all(seed: u64) -> Vec<Vector> {
-    [registers::vectors(seed), traps::vectors(seed), protection::vectors(seed), broken::vectors()]
-        .concat()
+    [
+        registers::vectors(seed),
+        traps::vectors(seed),
+        interrupts::vectors(),
+        protection::vectors(seed),
+        broken::vectors(),
+    ]
+    .concat()
 }

@@ -1,31 +1,23 @@
-//! Traps, delegation, interrupts, returns and time.
+//! Exceptions, delegation, returns and time.
 
 use reference::random::Random;
 use reference::{Hart, MACHINE, Map, SUPERVISOR, Step, USER, generate, step};
 
 use crate::vector::Vector;
 
-const WRITE: u64 = 1;
+pub const WRITE: u64 = 1;
 const SET: u64 = 2;
-const LINES: u64 = 6;
-const TAKE: u64 = 7;
 const MRET: u64 = 8;
 const SRET: u64 = 9;
-const WFI: u64 = 10;
-const MSTATUS: u64 = 0x300;
+pub const WFI: u64 = 10;
+pub const MSTATUS: u64 = 0x300;
 
 pub fn vectors(seed: u64) -> Vec<Vector> {
-    vec![
-        exceptions(),
-        environment_calls(),
-        interrupts(),
-        returns(),
-        time(),
-        any_steps(&mut Random::new(seed)),
-    ]
+    vec![exceptions(), environment_calls(), returns(), time(), any_steps(&mut Random::new(seed))]
 }
 
-fn enter(mode: u64) -> [[u64; 3]; 4] {
+/// From M into another mode, or M again, at 0x4000.
+pub fn enter(mode: u64) -> [[u64; 3]; 4] {
     [[3, MSTATUS, 3 << 11], [SET, MSTATUS, mode << 11], [WRITE, 0x341, 0x4000], [MRET, 0, 0]]
 }
 
@@ -58,28 +50,6 @@ fn environment_calls() -> Vector {
         }
     }
     Vector::of_steps("environment-calls", None, &steps)
-}
-
-/// Interrupts of all lines, of one that can be delegated, and of software
-/// alone, in every mode, under no, all and one delegation, and with each of the
-/// global enables. The ECALLs, not delegated, lead back to M.
-fn interrupts() -> Vector {
-    let mut steps = vec![[WRITE, 0x305, 0x8000_0001], [WRITE, 0x105, u64::MAX - 2]];
-    steps.push([WRITE, 0x304, u64::MAX]);
-    for mideleg in [0, 0x222, 0x020] {
-        for mode in [USER, SUPERVISOR, MACHINE] {
-            for enables in [0, 0x82] {
-                for (lines, software) in [(0xA88, 0x222), (0x200, 0), (0, 0x22), (0, 0)] {
-                    steps.extend([[WRITE, 0x303, mideleg], [WRITE, MSTATUS, enables]]);
-                    steps.extend([[WRITE, 0x344, software], [LINES, lines, 0]]);
-                    steps.extend(enter(mode));
-                    steps.extend([[TAKE, 0, 0], [TAKE, 0, 0], [WFI, 0, 0], [4, 0x144, 0]]);
-                    steps.extend([[11, 0, 0], [11, 0, 0], [4, 0x142, 0]]);
-                }
-            }
-        }
-    }
-    Vector::of_steps("interrupts", None, &steps)
 }
 
 /// MRET, SRET and WFI in every mode under each of TW and TSR, with MPRV.
