@@ -34,14 +34,16 @@ fn the_shapes_are_1538_registers_of_every_count_w2_to_w5_among_them() {
     let listed = generate::napot_registers();
     let registers: BTreeSet<u64> = listed.iter().copied().collect();
     assert_eq!((listed.len(), registers.len()), (1538, 1538));
-    assert!(registers.iter().all(|&pmpaddr| pmpaddr < 1 << 54));
+    for &pmpaddr in &registers {
+        assert!(pmpaddr < 1 << 54, "{pmpaddr:x}");
+    }
     for ones in 0..=54 {
         let expected = if ones < 52 { 55 - ones } else { [2, 1, 1][ones - 52] };
         let found = registers.iter().filter(|&&pmpaddr| trailing_ones(pmpaddr) == ones as u32);
-        assert_eq!(found.count(), expected);
+        assert_eq!(found.count(), expected, "{ones} ones");
     }
-    for worked in [0, 0x2000_0FFF, (1 << 52) - 1, (1 << 53) - 1, (1 << 54) - 1] {
-        assert!(registers.contains(&worked));
+    for pmpaddr in [0, 0x2000_0FFF, (1 << 52) - 1, (1 << 53) - 1, (1 << 54) - 1] {
+        assert!(registers.contains(&pmpaddr), "{pmpaddr:x}");
     }
 }
 
@@ -55,7 +57,8 @@ fn an_entry_matches_just_the_bytes_that_its_trailing_ones_give() {
         let near = [first.wrapping_sub(1), first, last, last + 1];
         let turned = (0..56).flat_map(|bit| [first ^ 1 << bit, last ^ 1 << bit]);
         for byte in near.into_iter().chain(turned).filter(|&byte| byte < MEMORY) {
-            assert_eq!(hart.matches(0, byte), first <= byte && byte <= last);
+            let expected = first <= byte && byte <= last;
+            assert_eq!(hart.matches(0, byte), expected, "{pmpaddr:x}, byte {byte:x}");
         }
     }
 }
@@ -67,6 +70,6 @@ fn the_map_has_just_the_range_that_the_trailing_ones_give() {
         let owned = map.listed().iter().filter(|range| range.owner != NONE);
         let owned: Vec<_> = owned.map(|range| (range.first, range.last, range.owner)).collect();
         let (first, last) = expected_range(pmpaddr);
-        assert_eq!(owned, [(first, last, 0)]);
+        assert_eq!(owned, [(first, last, 0)], "{pmpaddr:x}");
     }
 }

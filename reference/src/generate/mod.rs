@@ -1,4 +1,5 @@
-//! Random states, maps, steps and texts, biased to where programs go wrong.
+//! Random states, maps, steps and texts, biased to where programs go wrong, and
+//! the shapes of NAPOT registers.
 
 mod address;
 mod entries;

@@ -31,15 +31,16 @@ const FETCH_STEP: u64 = 14;
 
 /// The lowest bit of a configuration byte.
 const READ: u8 = 1;
-/// The modes and kinds whose answers hang on a border, the entry being locked
-/// and readable alone: M may fetch and store only outside, S and U may load only
-/// inside, and M may load on both sides, but not across.
-const TELLING: [(u64, u64); 5] =
+/// The accesses to try at each border, by mode and kind. Their answers hang on
+/// it, the entry being locked and readable alone: M may fetch and store only
+/// outside, S and U may load only inside, and M may load on both sides, but not
+/// across.
+const BORDER_ACCESSES: [(u64, u64); 5] =
     [(MACHINE, FETCH), (MACHINE, LOAD), (MACHINE, STORE), (SUPERVISOR, LOAD), (USER, LOAD)];
 
-/// Every register as entry 0 and as a higher one, each in a state that is random
-/// in all else. Gives how often the wrong count makes another range, which must
-/// be as often as counted by hand.
+/// Every register as entry 0 and as a higher one, each from a state in M with all
+/// other entries off, and random in all else. Gives how often the wrong count
+/// makes another range, which must be as often as counted by hand.
 pub fn walk(sizes: &Sizes) -> Result<Trailing, Difference> {
     let mut trailing = Trailing::default();
     let registers = generate::napot_registers();
@@ -96,7 +97,7 @@ fn matched_range(hart: &Hart, entry: usize) -> Range {
 fn compare_borders(lent: &Lent, range: Range) -> Result<(), String> {
     for border in [range.first, range.last + 1] {
         for (before, size) in [(1, 1), (0, 1), (4, 8)] {
-            for (mode, kind) in TELLING {
+            for (mode, kind) in BORDER_ACCESSES {
                 let address = border.wrapping_sub(before);
                 compare_access(lent, Question { mode, kind, address, size })?;
             }

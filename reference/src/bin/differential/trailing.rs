@@ -16,7 +16,8 @@ pub struct Trailing {
 }
 
 impl Trailing {
-    /// Counts an entry with the range it has, if it is a NAPOT entry.
+    /// Counts an entry with the range it has, if it is a NAPOT entry. Others are
+    /// left out so that a walk of them fails: NA4 gives the same number by chance.
     pub fn count(&mut self, hart: &Hart, entry: usize, range: Range) {
         if address_matching(hart.pmpcfg[entry]) == NAPOT {
             let otherwise = borders_by_zeros(hart.pmpaddr[entry]);
