@@ -1,9 +1,11 @@
-//! Random states, maps, steps and texts, biased to where programs go wrong.
+//! Random states, maps, steps and texts, biased to where programs go wrong, and
+//! the shapes of NAPOT registers.
 
 mod address;
 mod entries;
 mod interrupts;
 mod map;
+mod napot;
 mod state;
 mod step;
 mod text;
@@ -11,6 +13,7 @@ mod text;
 pub use address::address;
 pub use interrupts::mixed_delegation;
 pub use map::map;
+pub use napot::napot_registers;
 pub use state::{damaged, holdable};
 pub use step::{csr_operand, size, step};
 pub use text::text;

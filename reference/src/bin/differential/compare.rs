@@ -100,6 +100,11 @@ pub fn result_difference(
 
 /// One step on both sides, from the same state and map.
 pub fn compare_step(lent: &Lent, words: [u64; 3]) -> Result<(), String> {
+    step_both(lent, words).map(drop)
+}
+
+/// The same, to go on from: gives what the product leaves.
+pub fn step_both(lent: &Lent, words: [u64; 3]) -> Result<Lent, String> {
     let told = |text| {
         let [number, a, b] = words;
         format!("{}step {number}, a {a:016x}, b {b:016x}\n{text}", lent.text())
@@ -109,6 +114,6 @@ pub fn compare_step(lent: &Lent, words: [u64; 3]) -> Result<(), String> {
     let made_anew = lent.makes_map(&expected.0, words[0]);
     match result_difference(&expected, &found, made_anew) {
         Some(text) => Err(told(text)),
-        None => Ok(()),
+        None => Ok(found.0),
     }
 }
