@@ -265,7 +265,8 @@ pub record Consequences : Type 0 where
   pub read-text : (text words : List ℕ) → readText text ≡ readAs words → (text ≡ textOf words) × Words 41 words
   pub unread : (text words : List ℕ) → readText text .ok ≡ false → Words 41 words → text ≡ textOf words → ⊥
   -- "The map lists ranges (first byte, last byte, owner), owner being the lowest entry matching each byte or none. In order, no gap, no overlap,
-  -- from 0 to 2^56-1, neighbours never with one owner", and 02, [7]: whatever bytes and addresses the sixteen entries have
+  -- from 0 to 2^56-1, neighbours never with one owner." 02, [7]: "sixteen entries make at most 32 inner boundaries, each the first byte an entry
+  -- matches or the byte after its last". Both for any bytes and addresses of the sixteen entries
   pub compiled-map : (cfgs addrs : List ℕ) → Boundaries cfgs addrs (compiled cfgs addrs)
   -- "it reads the lowest-numbered range that holds the first byte": what is found is it, and where nothing is found no range holds the byte
   pub range-found : (rs : List Range) (byte : ℕ) (r : Range) → findRange rs byte ≡ At r → LowestHolding rs byte r

@@ -2,28 +2,25 @@
 use Prim.Native.Nat.{ℕ, suc, _+_, _≤_, _<_}
 use mathlib.Core.Path.{_≡_, refl, sym, subst, _∙_}
 use mathlib.Core.Bool.{true, false}
-use mathlib.Core.List.{List, [], _∷_}
+use mathlib.Core.List.{List, [], _∷_, map}
 use mathlib.Core.Logic.{_⊎_, inl, inr, ⊎-elim}
 use native.Mathlib.Omega.{arith}
 use native.Mathlib.Numerals.{add-one}
-use lib.ListN.{length, drop}
+use lib.ListN.{length, drop, length-map}
 use Rattle.bits.proofs.Conjunction.{contradiction}
 use Rattle.pmp.specs.Entry.{entrySpan, matches}
 use Rattle.pmp.specs.Rule.{ownerOf}
 use Rattle.pmp.proofs.EntryLaws.{contains-bounds, contains-inside, contains-below, contains-beyond}
 use Rattle.pmp.proofs.Owner.{owner-bound, owner-matches, below-owner}
 use Rattle.map.specs.declared.Range.{Range}
-use Rattle.map.specs.declared.Map.{Map}
-use Rattle.map.specs.Lookup.{rangesIn}
 use Rattle.map.specs.Painting.{rangesOf}
 use Rattle.map.specs.Compiled.{compiled}
-use Rattle.map.specs.Boundaries.{FirstByte, LastByte, Edge, AllEdges, firstBytes, Boundaries}
+use Rattle.map.specs.Boundaries.{FirstByte, LastByte, Edge, AllEdges, Boundaries}
 use Rattle.map.proofs.Lawful.{less, Lawful}
-use Rattle.map.proofs.MapLaws.{lawful-ranges, count-bound, is-map, read-back}
+use Rattle.map.proofs.MapLaws.{lawful-ranges, count-bound, is-map, compiled-ranges}
 
-first-count : (rs : List Range) → length (firstBytes rs) ≡ length rs
-first-count [] = refl
-first-count (r ∷ rs) = rw (first-count rs)
+abbrev firsts : List Range → List ℕ
+firsts rs = map (λ (r : Range). r .first) rs
 
 module _ (cfgs addrs : List ℕ) where
   -- an entry that matches a byte and not the next one has its last byte there
@@ -63,7 +60,7 @@ module _ (cfgs addrs : List ℕ) where
           record { entry = own (suc b); within = within; at = inl begun }
 
   -- each range but the first begins where the owner changes
-  later-edges : (before from : ℕ) (r : Range) (rs : List Range) → Lawful own before from (r ∷ rs) → AllEdges cfgs addrs (firstBytes rs)
+  later-edges : (before from : ℕ) (r : Range) (rs : List Range) → Lawful own before from (r ∷ rs) → AllEdges cfgs addrs (firsts rs)
   later-edges before from r [] l = tt
   later-edges before from r (s ∷ rs) l =
       let here : own (r .last) ≡ r .owner = l .0 .owned (r .last) (l .0 .some) (omega arith) in
@@ -72,26 +69,24 @@ module _ (cfgs addrs : List ℕ) where
         later-edges (r .owner) (suc (r .last)) s rs (l .1),
       )
 
-  edges : (rs : List Range) → Lawful own 17 0 rs → AllEdges cfgs addrs (drop 1 (firstBytes rs))
+  edges : (rs : List Range) → Lawful own 17 0 rs → AllEdges cfgs addrs (drop 1 (firsts rs))
   edges [] l = tt
   edges (r ∷ rs) l = later-edges 17 0 r rs l
 
   -- ranges that cover memory are one more than the boundaries between them
-  one-more : (rs : List Range) → Lawful own 17 0 rs → length rs ≡ length (drop 1 (firstBytes rs)) + 1
+  one-more : (rs : List Range) → Lawful own 17 0 rs → length rs ≡ length (drop 1 (firsts rs)) + 1
   one-more [] l = absurd (omega (arith, l))
-  one-more (r ∷ rs) l = rw (first-count rs, add-one (length rs))
-
-  ranges-boundaries : (m : Map) → rangesIn m ≡ rangesOf cfgs addrs → m .count ≡ length (rangesOf cfgs addrs) → Boundaries cfgs addrs m
-  ranges-boundaries m e c =
-      let n = one-more (rangesOf cfgs addrs) (lawful-ranges cfgs addrs) in
-      record {
-        laid = rw e (is-map cfgs addrs);
-        edges = rw e (edges (rangesOf cfgs addrs) (lawful-ranges cfgs addrs));
-        most = rw e (omega (arith, n, count-bound cfgs addrs));
-        count = rw e (c ∙ n);
-        bounded = omega (arith, c, count-bound cfgs addrs);
-      }
+  one-more (r ∷ rs) l = rw (length-map rs (λ (r : Range). r .first), add-one (length rs))
 
   pub boundaries : Boundaries cfgs addrs (compiled cfgs addrs)
   unfolding compiled
-  boundaries = ranges-boundaries (compiled cfgs addrs) (read-back cfgs addrs) refl
+  boundaries =
+      let e = compiled-ranges cfgs addrs in
+      let n = one-more (rangesOf cfgs addrs) (lawful-ranges cfgs addrs) in
+      record {
+        laid = rw e (is-map cfgs addrs);
+        most = rw e (omega (arith, n, count-bound cfgs addrs));
+        edges = rw e (edges (rangesOf cfgs addrs) (lawful-ranges cfgs addrs));
+        count = rw e n;
+        bounded = count-bound cfgs addrs;
+      }

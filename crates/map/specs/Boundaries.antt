@@ -2,13 +2,12 @@
 use Prim.Native.Nat.{ℕ, _+_, _≤_, _<_}
 use mathlib.Core.Path.{_≡_}
 use mathlib.Core.Bool.{true, false}
-use mathlib.Core.List.{List, [], _∷_}
+use mathlib.Core.List.{List, [], _∷_, map}
 use mathlib.Core.Logic.{_⊎_}
-use lib.ListN.{length, drop}
+use lib.ListN.{length, take, drop}
 use Rattle.pmp.specs.Entry.{entries, matches}
 use Rattle.map.specs.declared.Range.{Range}
 use Rattle.map.specs.declared.Map.{Map}
-use Rattle.map.specs.Lookup.{rangesIn}
 use Rattle.map.specs.Ranges.{IsMap}
 
 -- the first byte that entry i matches
@@ -25,23 +24,19 @@ pub record Edge (cfgs addrs : List ℕ) (byte : ℕ) : Type 0 where
   pub within : entry < entries
   pub at : FirstByte cfgs addrs entry byte ⊎ ((last : ℕ) × (byte ≡ last + 1) × LastByte cfgs addrs entry last)
 
--- each of the bytes is one
+-- each of the bytes is an edge
 abbrev pub AllEdges : List ℕ → List ℕ → List ℕ → Type 0
 AllEdges cfgs addrs [] = Unit {0}
 AllEdges cfgs addrs (byte ∷ bytes) = Edge cfgs addrs byte × AllEdges cfgs addrs bytes
 
-abbrev pub firstBytes : List Range → List ℕ
-firstBytes [] = []
-firstBytes (r ∷ rs) = r .first ∷ firstBytes rs
-
--- where the map's ranges begin, but for the first
+-- where the ranges up to the map's count begin, but for the first
 abbrev pub innerBoundaries : Map → List ℕ
-innerBoundaries m = drop 1 (firstBytes (rangesIn m))
+innerBoundaries m = drop 1 (map (λ (r : Range). r .first) (take (m .count) (m .ranges)))
 
 -- what [7] says of a map and the registers that it is compiled for
 pub record Boundaries (cfgs addrs : List ℕ) (m : Map) : Type 0 where
   -- its ranges are those that 01 lays down, so that an inner boundary is where the owner changes
-  pub laid : IsMap cfgs addrs (rangesIn m)
+  pub laid : IsMap cfgs addrs (take (m .count) (m .ranges))
   -- "at most 32 inner boundaries"
   pub most : length (innerBoundaries m) ≤ 32
   -- "each the first byte an entry matches or the byte after its last"
