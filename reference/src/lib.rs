@@ -4,6 +4,7 @@
 #![deny(unsafe_code)]
 
 mod answer;
+pub mod boundaries;
 #[cfg(feature = "capi")]
 pub mod capi;
 pub mod csr;

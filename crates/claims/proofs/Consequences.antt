@@ -3,7 +3,6 @@ use Prim.Native.Nat.{ℕ}
 use mathlib.Core.Path.{_≡_, refl, _∙_}
 use mathlib.Core.List.{List, [], _∷_}
 use native.Mathlib.Omega.{arith}
-use lib.ListN.{take}
 use Rattle.bits.specs.Lists.{elements}
 use Rattle.lines.specs.Lines.{bytesOf, hexDigits, lineOf, linesOf}
 use Rattle.pmp.specs.Rule.{ownerOf}
@@ -13,9 +12,7 @@ use Rattle.protection.specs.Configs.{packed}
 use Rattle.state.specs.declared.State.{State}
 use Rattle.state.specs.Hold.{resetState}
 use Rattle.state.specs.Words.{wordsOf}
-use Rattle.map.specs.Ranges.{IsMap}
-use Rattle.map.specs.Compiled.{compiled}
-use Rattle.map.proofs.MapLaws.{is-map, compiled-ranges, compiled-count}
+use Rattle.map.proofs.Boundaries.{boundaries}
 use Rattle.text.specs.Text.{keys, textOf}
 use Rattle.text.proofs.Form.{text-length}
 use Rattle.text.proofs.Laws.{read-text, text-read, read-words, refused-none}
@@ -48,10 +45,7 @@ reset-text : textFor (hartWith resetState) ≡ joined resetLines
 unfolding bytesOf hexDigits lineOf linesOf keys textOf packed elements wordsOf
 reset-text = refl
 
--- ---- the map
-
-map-laid : (cfgs addrs : List ℕ) → IsMap cfgs addrs (take (compiled cfgs addrs .count) (compiled cfgs addrs .ranges))
-map-laid cfgs addrs = rw (compiled-ranges cfgs addrs) (is-map cfgs addrs)
+-- ---- owners
 
 owner : (cfgs addrs : List ℕ) (byte : ℕ) → LowestOwner cfgs addrs byte (ownerOf cfgs addrs byte)
 owner cfgs addrs byte =
@@ -95,8 +89,7 @@ consequences =
       text-read = read-text;
       read-text = λ text words e. (text-read text words e, read-words text words e);
       unread = refused-none;
-      map-laid = map-laid;
-      map-count = compiled-count;
+      compiled-map = boundaries;
       range-found = range-found;
       range-missing = range-missing;
       query-beyond = query-beyond;

@@ -25,7 +25,8 @@ use Rattle.map.specs.Ranges.{IsMap}
 use Rattle.map.specs.Painting.{rangesOf}
 use Rattle.map.specs.Query.{queried}
 use Rattle.map.proofs.Lawful.{unique}
-use Rattle.map.proofs.MapLaws.{is-map, compiled-count, compiled-ranges}
+use Rattle.map.proofs.MapLaws.{is-map, compiled-ranges}
+use Rattle.map.proofs.Boundaries.{boundaries}
 use Rattle.map.proofs.QueryLaws.{query-rule, size-refused, one-range}
 use Rattle.text.specs.Text.{readText}
 use Rattle.engine.specs.Runs.{afterAll}
@@ -119,7 +120,7 @@ module _ (start : Mapped) (sound : Sound start) (steps : List Step) where
         state = ap (λ (l : Mapped). l .hart .state) left-own;
         lawful = subst (IsMap cfgs addrs) (sym ranges-left) (is-map cfgs addrs);
         ranges = ranges-left;
-        count = subst (λ (l : Mapped). l .map .count ≤ 33) (sym left-own) (compiled-count cfgs addrs);
+        count = subst (λ (l : Mapped). l .map .count ≤ 33) (sym left-own) (boundaries cfgs addrs .bounded);
         answers = answers-rule;
         unrefused =
             λ mode access address size number q e.

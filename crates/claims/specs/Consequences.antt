@@ -42,7 +42,7 @@ use Rattle.map.specs.declared.Range.{Range}
 use Rattle.map.specs.declared.Map.{Map}
 use Rattle.map.specs.declared.Found.the-variants.{At, Nothing}
 use Rattle.map.specs.Lookup.{findRange, rangesIn}
-use Rattle.map.specs.Ranges.{IsMap}
+use Rattle.map.specs.Boundaries.{Boundaries}
 use Rattle.map.specs.Compiled.{compiled}
 use Rattle.text.specs.Text.{textOf, readAs, readText}
 use Rattle.engine.specs.Effects.{withRegisters}
@@ -265,9 +265,9 @@ pub record Consequences : Type 0 where
   pub read-text : (text words : List ℕ) → readText text ≡ readAs words → (text ≡ textOf words) × Words 41 words
   pub unread : (text words : List ℕ) → readText text .ok ≡ false → Words 41 words → text ≡ textOf words → ⊥
   -- "The map lists ranges (first byte, last byte, owner), owner being the lowest entry matching each byte or none. In order, no gap, no overlap,
-  -- from 0 to 2^56-1, neighbours never with one owner": the list in the compiled map, whatever bytes and addresses the sixteen entries have
-  pub map-laid : (cfgs addrs : List ℕ) → IsMap cfgs addrs (take (compiled cfgs addrs .count) (compiled cfgs addrs .ranges))
-  pub map-count : (cfgs addrs : List ℕ) → compiled cfgs addrs .count ≤ 33
+  -- from 0 to 2^56-1, neighbours never with one owner." 02, [7]: "sixteen entries make at most 32 inner boundaries, each the first byte an entry
+  -- matches or the byte after its last". Both for any bytes and addresses of the sixteen entries
+  pub compiled-map : (cfgs addrs : List ℕ) → Boundaries cfgs addrs (compiled cfgs addrs)
   -- "it reads the lowest-numbered range that holds the first byte": what is found is it, and where nothing is found no range holds the byte
   pub range-found : (rs : List Range) (byte : ℕ) (r : Range) → findRange rs byte ≡ At r → LowestHolding rs byte r
   pub range-missing : (rs : List Range) (byte : ℕ) → findRange rs byte ≡ Nothing → NoneHolds rs byte

@@ -3,7 +3,7 @@ pub mod Lawful
 pub mod LookupLaws
 pub mod Painting
 pub mod MapLaws
-pub mod Edges
+pub mod Boundaries
 pub mod QueryLaws
 pub mod RangeFromLaws
 pub mod SweepLaws

@@ -45,7 +45,3 @@ module _ (cfgs addrs : List ℕ) where
   pub compiled-ranges : take (compiled cfgs addrs .count) (compiled cfgs addrs .ranges) ≡ rangesOf cfgs addrs
   unfolding compiled
   compiled-ranges = take-append-seam (rangesOf cfgs addrs) (replicate (33 - length (rangesOf cfgs addrs)) padding)
-
-  pub compiled-count : compiled cfgs addrs .count ≤ 33
-  unfolding compiled
-  compiled-count = count-bound

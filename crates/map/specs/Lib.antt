@@ -1,7 +1,7 @@
 -- The definitions that the contracts cite.
 pub mod Lookup
 pub mod Ranges
-pub mod Edges
+pub mod Boundaries
 pub mod Painting
 pub mod Compiled
 pub mod Query

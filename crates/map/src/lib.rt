@@ -7,6 +7,7 @@ ghost use Rattle.map.specs.Lookup.{holdsByte, findRange, rangesIn};
 ghost use Rattle.map.specs.declared.Found.the-variants.{At};
 ghost use Rattle.map.specs.Painting.{painted};
 ghost use Rattle.map.specs.Compiled.{mapOf, compiled};
+ghost use Rattle.map.specs.Boundaries.{Boundaries};
 ghost use Rattle.map.specs.Query.{rangeDecides, queried, foundDecides};
 ghost use Rattle.map.specs.Sweep.{normalized, Normalized, spansIn, rangeFrom};
 
@@ -77,7 +78,7 @@ fn range_from(lows: &[u64; 16], highs: &[u64; 16], at: u64) -> Range
 }
 
 // The map of sixteen entries, range by range from the lowest byte up. Two neighbours never have one owner, since each range ends where the owner
-// changes; and no place past the 33rd is written, since there are no more ranges.
+// changes. No test keeps a 34th range out: sixteen entries make at most 33.
 fn sweep(lows: &[u64; 16], highs: &[u64; 16]) -> Map
     requires { ⌜ Normalized (spansIn (now lows) (now highs)) ⌝ }
     ensures { λ r. ⌜ r ≡ mapOf (painted (spansIn (now (lows .entry)) (now (highs .entry))) entries) ⌝ }
@@ -101,9 +102,10 @@ fn sweep(lows: &[u64; 16], highs: &[u64; 16]) -> Map
     }
 }
 
-// The map of the sixteen entries.
+// The map of the sixteen entries. Each range but the first begins at the first byte that an entry matches or at the byte after its last.
 pub fn compile(cfgs: [u8; 16], addrs: [u64; 16]) -> Map
     ensures { λ r. ⌜ r ≡ compiled cfgs addrs ⌝ }
+    ensures { λ r. ⌜ Boundaries cfgs addrs r ⌝ }
 {
     let mut lows = [0u64; 16];
     let mut highs = [0u64; 16];

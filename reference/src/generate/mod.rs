@@ -1,11 +1,12 @@
-//! Random states, maps, steps and texts, biased to where programs go wrong, and
-//! the shapes of NAPOT registers.
+//! Random states, maps, steps and texts, biased to where programs go wrong, the
+//! shapes of NAPOT registers, and settings that make many ranges.
 
 mod address;
 mod entries;
 mod interrupts;
 mod map;
 mod napot;
+mod settings;
 mod state;
 mod step;
 mod text;
@@ -14,6 +15,7 @@ pub use address::address;
 pub use interrupts::mixed_delegation;
 pub use map::map;
 pub use napot::napot_registers;
+pub use settings::{Setting, settings};
 pub use state::{damaged, holdable};
 pub use step::{csr_operand, size, step};
 pub use text::text;

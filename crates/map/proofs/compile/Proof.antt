@@ -1,11 +1,13 @@
 -- `map::compile` meets its contract: the arrays hold the bytes of the entries before the next one. Assumes nothing.
 use Prim.Native.Nat.{ℕ, _≤_, _-_}
-use mathlib.Core.Path.{_≡_, refl, ap, _∙_}
+use mathlib.Core.Path.{_≡_, refl, sym, ap, subst, _∙_}
 use native.Mathlib.Omega.{arith}
 use native.Mathlib.Numerals.{add-one}
 use borrow.Author.Needs.{needs}
 use lib.ListN.{length, getD, length-set}
 use Rattle.pmp.specs.Entry.{spanOf, fieldA, addressBefore}
+use Rattle.map.specs.Boundaries.{Boundaries}
+use Rattle.map.proofs.Boundaries.{boundaries}
 use Rattle.map.proofs.SweepLaws.{Filled, filled-next, filled-normalized, filled-compiled}
 use Rattle.map.proofs.compile.Statement.{statement}
 use Rattle.map.proofs.compile.Tie as tie
@@ -45,7 +47,8 @@ returns : tie.Need-returns Inv-loop μ-loop
 returns c =
     let l = c .before .before .before .before .loop in
     let a = c .before .before .before .before .before .args in
-    c .sweep .ensures ∙ filled-compiled (a .t1) (a .t2) (l .lows) (l .highs) (λ k h. l .inv .4 k (omega arith))
+    let e = c .sweep .ensures ∙ filled-compiled (a .t1) (a .t2) (l .lows) (l .highs) (λ k h. l .inv .4 k (omega arith)) in
+    (e, subst (Boundaries (a .t1) (a .t2)) (sym e) (boundaries (a .t1) (a .t2)))
 
 pub compile-spec : {M : Type 1} → statement M
 compile-spec =

@@ -5,10 +5,10 @@ use reference::capi::Question;
 use reference::csr::number;
 use reference::protection::{LOCK, NAPOT};
 use reference::random::Random;
-use reference::{Hart, MACHINE, Range, SUPERVISOR, USER, generate, mask, status};
+use reference::{Hart, MACHINE, Range, SUPERVISOR, USER, generate, mask};
 
-use crate::compare::{Lent, compare_step, step_both};
-use crate::queries::compare_query;
+use crate::accesses::compare_access;
+use crate::compare::{Lent, step_both};
 use crate::report::{Difference, Stage};
 use crate::sizes::Sizes;
 use crate::trailing::Trailing;
@@ -23,11 +23,10 @@ const TELLING_ENTRIES: u64 = 2 * (1538 - 1);
 
 const WRITE: u64 = 1;
 const SET: u64 = 2;
-/// Kinds of access, as in a query. The steps 14 to 16 are in the same order.
+/// Kinds of access, as in a query.
 const FETCH: u64 = 0;
 const LOAD: u64 = 1;
 const STORE: u64 = 2;
-const FETCH_STEP: u64 = 14;
 
 /// The lowest bit of a configuration byte.
 const READ: u8 = 1;
@@ -104,16 +103,4 @@ fn compare_borders(lent: &Lent, range: Range) -> Result<(), String> {
         }
     }
     Ok(())
-}
-
-/// One access judged by the map and by a step. MPP is the mode, so that MPRV may
-/// be either; a fetch is of the four bytes that hold the address.
-fn compare_access(lent: &Lent, question: Question) -> Result<(), String> {
-    compare_query(lent, question)?;
-    let Question { mode, kind, address, size } = question;
-    let hart = Hart::from_words(&lent.hart);
-    let mstatus = status::with_mpp(hart.mstatus, mode);
-    let hart = Hart { mode, mstatus, pc: address & !3, ..hart };
-    let lent = Lent { hart: hart.to_words(), map: lent.map };
-    compare_step(&lent, [FETCH_STEP + kind, address, size])
 }

@@ -45,12 +45,17 @@ fn other_words(random: &mut Random) -> Lent {
 }
 
 pub fn compare_restore(text: &[u8], lent: &Lent) -> Result<(), String> {
+    restore_both(text, lent).map(drop)
+}
+
+/// The same, to go on from: gives what the product leaves.
+pub fn restore_both(text: &[u8], lent: &Lent) -> Result<Lent, String> {
     show(|| format!("text\n{}", text.escape_ascii()));
     restore_difference(text, lent)
         .map_err(|difference| format!("text\n{}\n{difference}", text.escape_ascii()))
 }
 
-fn restore_difference(text: &[u8], lent: &Lent) -> Result<(), String> {
+fn restore_difference(text: &[u8], lent: &Lent) -> Result<Lent, String> {
     let mut found = lent.clone();
     let call = capi::restore(text, &mut found.hart, &mut found.map);
     let (number, expected) = match restore(text) {
@@ -64,7 +69,7 @@ fn restore_difference(text: &[u8], lent: &Lent) -> Result<(), String> {
         let difference = state_difference(&expected.hart, &found.hart);
         return Err(format!("both give {call}; states differ\n{difference}"));
     }
-    map_difference(&expected.map, &found.map, number == 0).map_or(Ok(()), Err)
+    map_difference(&expected.map, &found.map, number == 0).map_or(Ok(found), Err)
 }
 
 /// States saved into buffers too short, just long enough, and longer.
