@@ -25,7 +25,7 @@ use Rattle.hart.specs.Steps.{mapFor, hartWith, handedBack, stepped}
 use Rattle.hart.proofs.StepLaws.{step-parts}
 use Rattle.hart.proofs.LeftLaws.{pmp-stays}
 use Rattle.trace.specs.declared.Replay.{Replay}
-use Rattle.trace.specs.Records.{readStep}
+use Rattle.records.specs.Records.{readStep}
 use Rattle.trace.specs.Buffers.{Put}
 use Rattle.trace.specs.Answers.{answerLine, brokenLine}
 use Rattle.trace.specs.Batches.{afterStep, afterDecoded, decodedLine, afterRecord, recordLine, recordsOf, afterRecords, recordLines}

@@ -1,10 +1,8 @@
--- A replay leaves what the steps of its records leave, and a record is the text of its words and of no others. Assumes nothing.
+-- A replay leaves what the steps of its records leave, and always a state that can be saved. Assumes nothing.
 use Prim.Native.Nat.{ℕ, _+_, _%_, _^_}
 use mathlib.Core.Path.{_≡_, refl, ap, _∙_}
 use mathlib.Core.Bool.{Bool, true, false, cond}
 use mathlib.Core.List.{List, [], _∷_}
-use native.Mathlib.Omega.{arith}
-use lib.ListN.{getD}
 use Rattle.bits.specs.Fold.{fold}
 use Rattle.bits.proofs.FoldLaws.{fold-keeps}
 use Rattle.steps.specs.declared.Decoded.{Decoded}
@@ -12,9 +10,7 @@ use Rattle.steps.specs.declared.Decoded.the-variants.{Formed, Nothing}
 use Rattle.state.specs.Hold.{canHold}
 use Rattle.map.specs.declared.Map.{Map}
 use Rattle.engine.proofs.Holds.{rule-holds}
-use Rattle.lines.specs.Lines.{linesOf, wordsIn, isText}
-use Rattle.bits.specs.Lists.{Words}
-use Rattle.lines.proofs.Back.{text-only, words-back, is-text}
+use Rattle.records.specs.Records.{readStep}
 use Rattle.hart.specs.declared.Hart.{Hart}
 use Rattle.hart.specs.declared.Mapped.{Mapped}
 use Rattle.hart.specs.declared.Stepped.{Stepped}
@@ -23,8 +19,6 @@ use Rattle.hart.specs.Steps.{stepped}
 use Rattle.hart.specs.Runs.{with, leftBy}
 use Rattle.hart.proofs.StepLaws.{step-parts}
 use Rattle.trace.specs.declared.Replay.{Replay}
-use Rattle.trace.specs.declared.Record.the-variants.{Words as RecordWords, Broken}
-use Rattle.trace.specs.Records.{keys, recordOf, three, readRecord, readStep}
 use Rattle.trace.specs.Endings.{stateText}
 use Rattle.trace.specs.Batches.{afterDecoded, afterRecord, recordsOf, afterRecords, stepThen, stepsRead}
 use Rattle.trace.proofs.Batching.{stopped-still}
@@ -71,30 +65,3 @@ pub replay-saved : (n : ℕ) (r : Replay) (t : List ℕ) → canHold (r .hart .s
     → stateText (afterRecords n r t .hart) ≡ textFor (afterRecords n r t .hart)
 unfolding stateText
 replay-saved n r t h = rw (replay-holds n r t h)
-
--- ---- records and words
-
--- the record of three words of 64 bits gives the words
-pub record-back : (step a b : ℕ) → Words 3 (step ∷ a ∷ b ∷ []) → readRecord (recordOf step a b) ≡ RecordWords step a b
-unfolding keys recordOf readRecord
-record-back step a b w =
-    let ws = step ∷ a ∷ b ∷ [] in
-    rw (is-text keys ws w, words-back keys ws w)
-
-lines-three : (ws : List ℕ) → linesOf keys 0 ws ≡ linesOf keys 0 (getD ws 0 0 ∷ getD ws 1 0 ∷ getD ws 2 0 ∷ [])
-unfolding keys linesOf
-lines-three ws = refl
-
--- a text that gives three words is their record
-pub record-only : (t : List ℕ) (step a b : ℕ) → readRecord t ≡ RecordWords step a b → t ≡ recordOf step a b
-unfolding recordOf readRecord
-record-only t step a b e = go (isText keys t) refl e
-  where
-    go : (r : Bool) → isText keys t ≡ r → cond r (three (wordsIn keys t)) Broken ≡ RecordWords step a b → t ≡ linesOf keys 0 (step ∷ a ∷ b ∷ [])
-    go true p q =
-        let ws = wordsIn keys t in
-        let x : getD ws 0 0 ≡ step = cc in
-        let y : getD ws 1 0 ≡ a = cc in
-        let z : getD ws 2 0 ≡ b = cc in
-        text-only keys t p ∙ lines-three ws ∙ (λ j. linesOf keys 0 (x j ∷ y j ∷ z j ∷ []))
-    go false p q = let z : _≡_ {A = ℕ} 0 1 = cc in absurd (omega arith)

@@ -12,7 +12,7 @@ use Rattle.map.specs.declared.Map.{Map}
 use Rattle.hart.specs.declared.Stepped.{Stepped}
 use Rattle.hart.specs.Steps.{mapFor, hartWith, stepped}
 use Rattle.trace.specs.declared.Replay.{Replay}
-use Rattle.trace.specs.Records.{readStep}
+use Rattle.records.specs.Records.{readStep}
 use Rattle.trace.specs.Answers.{answerLine, brokenLine}
 
 -- record numbers wrap at 2^64

@@ -1,5 +1,4 @@
 -- The definitions that the contracts cite.
-pub mod Records
 pub mod Buffers
 pub mod Answers
 pub mod Batches

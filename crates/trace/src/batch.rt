@@ -1,7 +1,6 @@
 // Batches of records.
 use crate::Replay;
 use crate::Written;
-use crate::reader;
 use crate::writer;
 use hart::Hart;
 use map::Map;
@@ -58,7 +57,7 @@ pub(crate) fn batch(input: &[u8], out: &mut [u8], start: Replay) -> Written
     while 0 < left {
         left -= 1;
         let end = at + 60;
-        let Decoded::Formed(step) = reader::read_step(&input[at..end]) else {
+        let Decoded::Formed(step) = records::read_step(&input[at..end]) else {
             filled = writer::put_broken(number, out, filled);
             let replay = handed_back(words, remap, map, number, true);
             return Written { replay, filled };

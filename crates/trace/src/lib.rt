@@ -5,14 +5,7 @@ use map::Map;
 mod batch;
 mod ending;
 mod pieces;
-mod reader;
 mod writer;
-
-// The three words of a record.
-pub(crate) enum Record {
-    Words(u64, u64, u64),
-    Broken,
-}
 
 // What goes on from one record to the next: the hart with its map, the number of the next record, and whether a broken record ended the replay.
 pub struct Replay {

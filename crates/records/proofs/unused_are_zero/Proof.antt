@@ -1,7 +1,7 @@
-use Rattle.trace.specs.Records.{unusedAreZero}
+use Rattle.records.specs.Records.{unusedAreZero}
 use borrow.Author.Needs.{needs}
-use Rattle.trace.proofs.reader.unused_are_zero.Statement.{statement}
-use Rattle.trace.proofs.reader.unused_are_zero.Tie as tie
+use Rattle.records.proofs.unused_are_zero.Statement.{statement}
+use Rattle.records.proofs.unused_are_zero.Tie as tie
 
 returns : tie.Need-returns
 unfolding unusedAreZero

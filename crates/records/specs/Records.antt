@@ -9,8 +9,8 @@ use Rattle.lines.specs.Lines.{linesOf, wordsIn, isText}
 use Rattle.steps.specs.declared.Decoded.{Decoded}
 use Rattle.steps.specs.declared.Decoded.the-variants.{Nothing}
 use Rattle.steps.specs.Decode.{decoded}
-use Rattle.trace.specs.declared.Record.{Record}
-use Rattle.trace.specs.declared.Record.the-variants.{Words, Broken}
+use Rattle.records.specs.declared.Record.{Record}
+use Rattle.records.specs.declared.Record.the-variants.{Words, Broken}
 
 unfoldable pub keys : List String
 keys = "step" ∷ "a" ∷ "b" ∷ []

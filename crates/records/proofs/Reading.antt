@@ -1,4 +1,4 @@
--- Reading a record line by line is reading its form.
+-- Reading a record line by line is reading its form. Assumes nothing.
 use Prim.Native.Nat.{ℕ}
 use mathlib.Core.Path.{_≡_, refl, sym, _∙_}
 use mathlib.Core.Bool.{Bool, true, cond, _&&_, and-true, and-assoc}
@@ -7,8 +7,8 @@ use lib.ListN.{length}
 use Rattle.lines.specs.Lines.{bytesOf, keyOf, linesLength}
 use Rattle.lines.specs.Fields.{lineAt, linesAt, allOk, wordsRead}
 use Rattle.lines.proofs.Reading.{text-judged, words-judged, not-text}
-use Rattle.trace.specs.declared.Record.the-variants.{Words, Broken}
-use Rattle.trace.specs.Records.{keys, readRecord}
+use Rattle.records.specs.declared.Record.the-variants.{Words, Broken}
+use Rattle.records.specs.Records.{keys, readRecord}
 
 record-length : linesLength keys ≡ 60
 unfolding keys bytesOf linesLength

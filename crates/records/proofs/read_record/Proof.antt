@@ -1,12 +1,12 @@
-use Rattle.trace.proofs.Reading.{record-judged, record-short}
-use Rattle.trace.specs.declared.Record.the-variants.{Words, Broken}
-use Rattle.trace.specs.Records.{readRecord}
+use Rattle.records.proofs.Reading.{record-judged, record-short}
+use Rattle.records.specs.declared.Record.the-variants.{Words, Broken}
+use Rattle.records.specs.Records.{readRecord}
 use Rattle.lines.specs.Lines.{bytesOf}
 use mathlib.Core.Bool.{cond, _&&_}
 use mathlib.Core.Path.{_≡_, sym}
 use borrow.Author.Needs.{needs}
-use Rattle.trace.proofs.reader.read_record.Statement.{statement}
-use Rattle.trace.proofs.reader.read_record.Tie as tie
+use Rattle.records.proofs.read_record.Statement.{statement}
+use Rattle.records.proofs.read_record.Tie as tie
 
 -- what is known once the three lines are read
 judged : (c : tie.After-struct-known3) →

@@ -1,7 +1,7 @@
-use Rattle.trace.specs.Records.{readStep}
+use Rattle.records.specs.Records.{readStep}
 use borrow.Author.Needs.{needs}
-use Rattle.trace.proofs.reader.read_step.Statement.{statement}
-use Rattle.trace.proofs.reader.read_step.Tie as tie
+use Rattle.records.proofs.read_step.Statement.{statement}
+use Rattle.records.proofs.read_step.Tie as tie
 
 returns : tie.Need-returns
 unfolding readStep

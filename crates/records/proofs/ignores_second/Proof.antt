@@ -1,6 +1,6 @@
 use borrow.Author.Needs.{needs}
-use Rattle.trace.proofs.reader.ignores_second.Statement.{statement}
-use Rattle.trace.proofs.reader.ignores_second.Tie as tie
+use Rattle.records.proofs.ignores_second.Statement.{statement}
+use Rattle.records.proofs.ignores_second.Tie as tie
 
 returns : tie.Need-returns
 returns c = rw (c .ignores-first .ensures)

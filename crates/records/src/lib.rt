@@ -1,8 +1,13 @@
-// Records of a trace.
-use crate::Record;
+// Records of a trace: the text of a step.
 use steps::Decoded;
 ghost use mathlib.Core.Path.{_≡_};
-ghost use Rattle.trace.specs.Records.{readRecord, ignoresFirst, ignoresSecond, unusedAreZero, recordStep, readStep};
+ghost use Rattle.records.specs.Records.{readRecord, ignoresFirst, ignoresSecond, unusedAreZero, recordStep, readStep};
+
+// The three words of a record.
+enum Record {
+    Words(u64, u64, u64),
+    Broken,
+}
 
 // Reads a record: the words of its three lines, if all of them are in the form.
 fn read_record(text: &[u8]) -> Record
@@ -55,8 +60,8 @@ fn record_step(record: Record) -> Decoded
     }
 }
 
-// The step of a record's text.
-pub(crate) fn read_step(text: &[u8]) -> Decoded
+// The step of a record's text, if it is a record and names one.
+pub fn read_step(text: &[u8]) -> Decoded
     ensures { λ r. ⌜ r ≡ readStep (now (text .entry)) ⌝ }
 {
     record_step(read_record(text))

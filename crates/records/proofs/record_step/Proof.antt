@@ -1,7 +1,7 @@
-use Rattle.trace.specs.Records.{recordStep}
+use Rattle.records.specs.Records.{recordStep}
 use borrow.Author.Needs.{needs}
-use Rattle.trace.proofs.reader.record_step.Statement.{statement}
-use Rattle.trace.proofs.reader.record_step.Tie as tie
+use Rattle.records.proofs.record_step.Statement.{statement}
+use Rattle.records.proofs.record_step.Tie as tie
 
 returns : tie.Need-returns
 unfolding recordStep
