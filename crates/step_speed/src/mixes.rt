@@ -1,4 +1,4 @@
-// The mixes: sixteen steps each, by their place, and the steps that come before every mix.
+// The mixes, each an endless list of steps: sixteen over and over, or 8,192 of the fifth; and the steps that come before every mix.
 use pmp::Access;
 use steps::Event;
 use steps::Operation;
@@ -134,12 +134,28 @@ fn protection_step(place: u64) -> Step {
     }
 }
 
+// Present and absent numbers. Every second step is one of the first mix; the others go over all 4,096 numbers in 8,192 steps, with operand 0, so that no
+// protection register changes.
+fn lookup_step(place: u64) -> Step {
+    let turn = place / 2 % 4096;
+    if place % 2 == 0 {
+        return csr_step(turn % 16);
+    }
+    let number = (turn * 1229 + 77) % 4096;
+    match turn % 3 {
+        0 => read(number),
+        1 => set(number, 0),
+        _ => clear(number, 0),
+    }
+}
+
 // The step at a place of a mix.
 pub(crate) fn step_of(mix: u64, place: u64) -> Step {
     match mix {
-        1 => csr_step(place),
-        2 => Step::Event(trap_event(place)),
-        3 => access_step(place),
-        _ => protection_step(place),
+        1 => csr_step(place % 16),
+        2 => Step::Event(trap_event(place % 16)),
+        3 => access_step(place % 16),
+        4 => protection_step(place % 16),
+        _ => lookup_step(place),
     }
 }

@@ -1,0 +1,112 @@
+-- The table of [11] agrees with the rule at every address. Assumes nothing.
+use Prim.Native.Nat.{ℕ, zero, suc, _+_, _*_, _≤_, _<_, _/_, _%_}
+use mathlib.Core.Path.{_≡_, refl, sym, ap, _∙_}
+use mathlib.Core.Bool.{Bool, true, false, not, cond, _&&_, _||_}
+use mathlib.Core.List.{List, [], _∷_}
+use mathlib.Core.Logic.{_≢_, ⊎-elim}
+use native.Mathlib.Omega.{arith}
+use native.Mathlib.Nat.{add-zero, le-of-suc-le-suc, not-suc-le-zero, eq-or-lt-of-le}
+use lib.Dec.{eqb, leb, ltb}
+use lib.ListN.{getD, replicate}
+use borrow.Author.Tests.{ne-eqb, leb-true}
+use Rattle.bits.proofs.Conjunction.{both, not-true-false}
+use Rattle.registers.specs.declared.Registers.{Registers}
+use Rattle.steps.specs.declared.Operation.{Operation}
+use Rattle.csr.specs.Permit.{between, present, lowestMode, readOnly, attemptsWrite, counterHidden, translationTrapped, illegal}
+use Rattle.csr.specs.Table.{accessNumber, accessNumbers}
+
+-- ---- what a number says
+
+module _ (mode m : ℕ) (small : m < 4) (attempt rest : Bool) where
+  -- the tests on the number of a register, by whether it is present, its lowest mode and whether it is read-only
+  decoded : (here fixed : Bool)
+      → let number = cond here (1 + 2 * m + 8 * cond fixed 1 0) 0 in
+      (eqb number 0 || (ltb mode (number / 2 % 4) || ((attempt && eqb (number / 8) 1) || rest)))
+      ≡ (not here || (ltb mode m || ((attempt && fixed) || rest)))
+  decoded false fixed = refl
+  decoded true true =
+      let low : (1 + 2 * m + 8) / 2 % 4 ≡ m = omega (arith, small) in
+      let high : (1 + 2 * m + 8) / 8 ≡ 1 = omega (arith, small) in
+      rw (ne-eqb (1 + 2 * m + 8) 0 (omega arith), low, high)
+  decoded true false =
+      let low : (1 + 2 * m + 0) / 2 % 4 ≡ m = omega (arith, small) in
+      let high : (1 + 2 * m + 0) / 8 ≡ 0 = omega (arith, small) in
+      rw (ne-eqb (1 + 2 * m + 0) 0 (omega arith), low, high)
+
+-- the rule, asked by the table's number: at every address, in every state
+pub agrees : (r : Registers) (operation : Operation) (n : ℕ)
+    → (eqb (accessNumber n) 0 || (ltb (r .mode) (accessNumber n / 2 % 4) || ((attemptsWrite operation && eqb (accessNumber n / 8) 1)
+    || (translationTrapped r n || counterHidden r n))))
+    ≡ illegal r operation n
+unfolding illegal
+agrees r operation n =
+    decoded (r .mode) (lowestMode n) (omega arith) (attemptsWrite operation) (translationTrapped r n || counterHidden r n) (present n) (readOnly n)
+
+-- ---- a row of the table
+
+-- the number at a place of a row
+place : (count n i : ℕ) → i < count → getD (accessNumbers count n) i 0 ≡ accessNumber (n + i)
+unfolding accessNumbers
+place zero n i h = absurd (not-suc-le-zero h)
+place (suc count) n zero h = ap accessNumber (omega arith)
+place (suc count) n (suc i) h = place count (n + 1) i (le-of-suc-le-suc h) ∙ ap accessNumber (omega arith)
+
+-- an address by its row and its place in it
+pub by-row : (n : ℕ) (row : List ℕ) → row ≡ accessNumbers 16 (16 * (n / 16)) → getD row (n % 16) 0 ≡ accessNumber n
+by-row n row e = ap (λ (l : List ℕ). getD l (n % 16) 0) e ∙ (place 16 (16 * (n / 16)) (n % 16) (omega arith) ∙ ap accessNumber (omega arith))
+
+-- a row without a register
+pub empty : (count n : ℕ) → ((i : ℕ) → i < count → present (n + i) ≡ false) → replicate count 0 ≡ accessNumbers count n
+unfolding accessNumbers
+empty zero n f = refl
+empty (suc count) n f =
+    let first : present n ≡ false = ap present (sym (add-zero n)) ∙ f 0 (omega arith) in
+    rw (first, empty count (n + 1) (λ i h. ap present (omega arith) ∙ f (suc i) (omega (arith, h))))
+
+-- ---- a row in which no number is present
+
+module _ (row i : ℕ) (h : i < 16) where
+  one-out : (k q : ℕ) → 16 * q ≤ k → k < 16 * q + 16 → row ≢ q → eqb (16 * row + i) k ≡ false
+  one-out k q low high ne = ne-eqb (16 * row + i) k (λ (e : 16 * row + i ≡ k). ne (omega (arith, e, low, high, h)))
+
+  inside : (a b : ℕ) → between a b (16 * row + i) ≡ true → (a ≤ 16 * row + i) × (16 * row + i ≤ b)
+  inside a b t =
+      let w = both (leb a (16 * row + i)) (leb (16 * row + i) b) t in
+      (leb-true a (16 * row + i) (w .0), leb-true (16 * row + i) b (w .1))
+
+  some-out : (a b q : ℕ) → 16 * q ≤ a → b < 16 * q + 16 → row ≢ q → between a b (16 * row + i) ≡ false
+  some-out a b q low high ne =
+      not-true-false (between a b (16 * row + i)) (λ t. ne (omega (arith, inside a b t .0, inside a b t .1, low, high, h)))
+
+  -- over two rows
+  more-out : (a b q : ℕ) → 16 * q ≤ a → b < 16 * q + 32 → row ≢ q → row ≢ q + 1 → between a b (16 * row + i) ≡ false
+  more-out a b q low high ne ne′ =
+      not-true-false (between a b (16 * row + i)) (λ t.
+      let from : q ≤ row = omega (arith, inside a b t .0, low, h) in
+      let to : row ≤ q + 1 = omega (arith, inside a b t .1, high, h) in
+      ⊎-elim (λ (e : q ≡ row). ne (sym e)) (λ (l : q < row). ne′ (omega (arith, l, to))) (eq-or-lt-of-le from))
+
+  pub absent : row ≢ 0x10 → row ≢ 0x14 → row ≢ 0x18 → row ≢ 0x30 → row ≢ 0x32 → row ≢ 0x33 → row ≢ 0x34 → row ≢ 0x3A → row ≢ 0x3B → row ≢ 0xB0
+      → row ≢ 0xB1 → row ≢ 0xC0 → row ≢ 0xC1 → row ≢ 0xF1 → present (16 * row + i) ≡ false
+  unfolding present
+  absent n10 n14 n18 n30 n32 n33 n34 n3A n3B nB0 nB1 nC0 nC1 nF1 =
+      rw (
+        some-out 0xF11 0xF15 0xF1 (omega arith) (omega arith) nF1,
+        some-out 0x300 0x306 0x30 (omega arith) (omega arith) n30,
+        one-out 0x30A 0x30 (omega arith) (omega arith) n30,
+        one-out 0x320 0x32 (omega arith) (omega arith) n32,
+        more-out 0x323 0x33F 0x32 (omega arith) (omega arith) n32 n33,
+        some-out 0x340 0x344 0x34 (omega arith) (omega arith) n34,
+        one-out 0x3A0 0x3A (omega arith) (omega arith) n3A,
+        one-out 0x3A2 0x3A (omega arith) (omega arith) n3A,
+        some-out 0x3B0 0x3BF 0x3B (omega arith) (omega arith) n3B,
+        one-out 0xB00 0xB0 (omega arith) (omega arith) nB0,
+        more-out 0xB02 0xB1F 0xB0 (omega arith) (omega arith) nB0 nB1,
+        one-out 0x100 0x10 (omega arith) (omega arith) n10,
+        some-out 0x104 0x106 0x10 (omega arith) (omega arith) n10,
+        one-out 0x10A 0x10 (omega arith) (omega arith) n10,
+        some-out 0x140 0x144 0x14 (omega arith) (omega arith) n14,
+        one-out 0x180 0x18 (omega arith) (omega arith) n18,
+        one-out 0xC00 0xC0 (omega arith) (omega arith) nC0,
+        more-out 0xC02 0xC1F 0xC0 (omega arith) (omega arith) nC0 nC1,
+      )
