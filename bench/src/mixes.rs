@@ -10,15 +10,38 @@ pub struct Mix {
     pub number: u64,
     /// How many steps are timed at once, a multiple of a batch.
     pub count: u64,
-    pub steps: [Words; 16],
+    /// Steps to be done over and over. Their number divides a batch, or is a
+    /// multiple of it.
+    pub steps: &'static [Words],
+    /// How the plain Rust programs judge CSR accesses.
+    pub judgement: Judgement,
 }
 
-pub const MIXES: [Mix; 4] = [
-    Mix { name: "CSR steps", number: 1, count: 512_000, steps: CSR },
-    Mix { name: "traps and returns", number: 2, count: 512_000, steps: TRAPS },
-    Mix { name: "accesses, on the registers", number: 3, count: 204_800, steps: ACCESSES },
-    Mix { name: "PMP writes, map compiled", number: 4, count: 51_200, steps: PROTECTION },
+#[derive(Clone, Copy)]
+pub enum Judgement {
+    /// By the rule, as the reference does.
+    Rule,
+    /// By a table of all numbers, as request [11] of document 02 asks.
+    Table,
+}
+
+pub static MIXES: [Mix; 5] = [
+    by_rule("CSR steps", 1, 512_000, &CSR),
+    by_rule("traps and returns", 2, 512_000, &TRAPS),
+    by_rule("accesses, on the registers", 3, 204_800, &ACCESSES),
+    by_rule("PMP writes, map compiled", 4, 51_200, &PROTECTION),
+    Mix {
+        name: "CSR steps, present and absent",
+        number: 5,
+        count: 1_024_000,
+        steps: &ANY_CSR,
+        judgement: Judgement::Table,
+    },
 ];
+
+const fn by_rule(name: &'static str, number: u64, count: u64, steps: &'static [Words; 16]) -> Mix {
+    Mix { name, number, count, steps, judgement: Judgement::Rule }
+}
 
 const WRITE: u64 = 1;
 const SET: u64 = 2;
@@ -56,6 +79,22 @@ const CSR: [Words; 16] = [
     [WRITE, 0x143, 0x42],
     [READ, 0xC02, 0],
 ];
+
+/// Those steps in turn with others that go over all 4,096 numbers, most of them
+/// absent. Operand 0 changes no protection register, so no map is compiled.
+static ANY_CSR: [Words; 2 * 4096] = any_csr();
+
+const fn any_csr() -> [Words; 2 * 4096] {
+    let mut steps = [[0; 3]; 2 * 4096];
+    let mut pair = 0;
+    while pair < 4096 {
+        let operation = [READ, SET, CLEAR][pair % 3];
+        steps[2 * pair] = CSR[pair % 16];
+        steps[2 * pair + 1] = [operation, (pair as u64 * 1229 + 77) % 4096, 0];
+        pair += 1;
+    }
+    steps
+}
 
 /// From mode M with MPP=U and back to it.
 const TRAPS: [Words; 16] = [

@@ -1,10 +1,20 @@
-//! Every CSR number in M, and the numbers of S and U in their modes.
+//! Every CSR number in M, the numbers of S and U in their modes, and accesses that
+//! hang on TVM and on the counter enables.
 
 use reference::csr::present;
 use reference::random::Random;
-use reference::{Hart, SUPERVISOR, USER, generate};
+use reference::{Hart, MACHINE, SUPERVISOR, USER, generate};
 
+use crate::traps::{MSTATUS, WRITE};
 use crate::vector::Vector;
+
+const SET: u64 = 2;
+const CLEAR: u64 = 3;
+const READ: u64 = 4;
+const MRET: u64 = 8;
+const ECALL: u64 = 11;
+const TVM: u64 = 1 << 20;
+const ALL_ENABLED: [u64; 2] = [5, 5];
 
 pub fn vectors(seed: u64) -> Vec<Vector> {
     let mut random = Random::new(seed);
@@ -20,6 +30,7 @@ pub fn vectors(seed: u64) -> Vec<Vector> {
     for (name, mode) in [("csr-walk-supervisor", SUPERVISOR), ("csr-walk-user", USER)] {
         vectors.push(unprivileged(&mut random, name, mode));
     }
+    vectors.push(by_state());
     vectors
 }
 
@@ -57,4 +68,41 @@ fn unprivileged(random: &mut Random, name: &str, mode: u64) -> Vector {
         }
     }
     Vector::of_steps(name, Some(&start), &steps)
+}
+
+/// satp under TVM, counters under their enables, and write attempts with operand 0
+/// at numbers that can only be read, in every mode.
+fn by_state() -> Vector {
+    let mut steps = Vec::new();
+    for mode in [USER, SUPERVISOR, MACHINE] {
+        for (tvm, operation) in [0, TVM].map(|tvm| [1, 2, 3, 4].map(|step| (tvm, step))).concat() {
+            steps.extend(in_mode(mode, tvm, ALL_ENABLED, [operation, 0x180, 0]));
+        }
+        for enables in [ALL_ENABLED, [0, 5], [5, 0], [1, 5], [4, 5], [5, 1], [5, 4]] {
+            for number in [0xC00, 0xC01, 0xC02, 0xC03, 0xC1F] {
+                steps.extend(in_mode(mode, 0, enables, [READ, number, 0]));
+            }
+        }
+        for number in [0xC00, 0xC02, 0xC1F, 0xF11, 0xF15] {
+            for operation in [SET, CLEAR] {
+                steps.extend(in_mode(mode, 0, ALL_ENABLED, [operation, number, 0]));
+            }
+        }
+    }
+    Vector::of_steps("csr-access-by-state", None, &steps)
+}
+
+/// One step in a mode, from M and back: neither an illegal instruction nor ECALL is
+/// delegated.
+fn in_mode(mode: u64, tvm: u64, enables: [u64; 2], step: [u64; 3]) -> [[u64; 3]; 7] {
+    let [mcounteren, scounteren] = enables;
+    [
+        [WRITE, 0x306, mcounteren],
+        [WRITE, 0x106, scounteren],
+        [WRITE, 0x341, 0x4000],
+        [WRITE, MSTATUS, tvm | mode << 11],
+        [MRET, 0, 0],
+        step,
+        [ECALL, 0, 0],
+    ]
 }
