@@ -1,14 +1,18 @@
 //! CSR accesses judged by a table, as a plain Rust program would have it: the
 //! reference's own judgement is the rule, for clarity.
 
+use reference::csr::number::{CYCLE, SATP};
 use reference::csr::{Judge, Rule, lowest_mode, present, read_only};
-use reference::{Hart, Mode, status};
+use reference::{Hart, MACHINE, Mode, SUPERVISOR, USER, status};
 
 const NUMBERS: usize = 4096;
 /// The bits of a number's entry: present, the lowest mode, read-only.
 const PRESENT: u8 = 1;
 const LOWEST_MODE_SHIFT: u32 = 1;
 const READ_ONLY: u8 = 8;
+
+/// How many numbers from CYCLE on are those of counters.
+const COUNTERS: u64 = 32;
 
 /// What does not hang on the state, for each number; 0 where no register is present.
 static TABLE: [u8; NUMBERS] = table();
@@ -40,8 +44,20 @@ impl Judge for Table {
         entry != 0
             && hart.mode >= u64::from(entry >> LOWEST_MODE_SHIFT & 3)
             && !(write_attempt && entry & READ_ONLY != 0)
-            && hart.is_open(number)
+            && is_open(hart, number)
     }
+}
+
+/// What hangs on the state, once the table has let the access through.
+#[inline]
+fn is_open(hart: &Hart, number: u64) -> bool {
+    let counter = number.wrapping_sub(CYCLE);
+    if counter < COUNTERS {
+        let by_machine = hart.mcounteren >> counter & 1 != 0;
+        let by_supervisor = hart.scounteren >> counter & 1 != 0;
+        return hart.mode == MACHINE || by_machine && (hart.mode != USER || by_supervisor);
+    }
+    number != SATP || hart.mode != SUPERVISOR || hart.mstatus & status::TVM == 0
 }
 
 /// The table must agree with the rule at every number, in every mode, for reads and

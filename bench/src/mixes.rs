@@ -1,5 +1,6 @@
 //! The mixes of steps: those of the Rattle program `step_speed`, in its order.
 
+use reference::csr::present;
 use reference::{Hart, Map, Step, step};
 
 pub type Words = [u64; 3];
@@ -34,7 +35,7 @@ pub static MIXES: [Mix; 5] = [
         name: "CSR steps, present and absent",
         number: 5,
         count: 1_024_000,
-        steps: &ANY_CSR,
+        steps: &ANY_NUMBER,
         judgement: Judgement::Table,
     },
 ];
@@ -80,20 +81,41 @@ const CSR: [Words; 16] = [
     [READ, 0xC02, 0],
 ];
 
-/// Those steps in turn with others that go over all 4,096 numbers, most of them
-/// absent. Operand 0 changes no protection register, so no map is compiled.
-static ANY_CSR: [Words; 2 * 4096] = any_csr();
+/// Numbers with and without a register, in turn and scattered: the second of each
+/// pair goes over all 4,096 numbers. Operand 0 changes no protection register, so no
+/// map is compiled.
+static ANY_NUMBER: [Words; 2 * 4096] = any_number();
+/// How many numbers have a register.
+const REGISTERS: usize = 139;
 
-const fn any_csr() -> [Words; 2 * 4096] {
+const fn any_number() -> [Words; 2 * 4096] {
+    let present = present_numbers();
     let mut steps = [[0; 3]; 2 * 4096];
-    let mut pair = 0;
-    while pair < 4096 {
-        let operation = [READ, SET, CLEAR][pair % 3];
-        steps[2 * pair] = CSR[pair % 16];
-        steps[2 * pair + 1] = [operation, (pair as u64 * 1229 + 77) % 4096, 0];
-        pair += 1;
+    let mut turn = 0;
+    while turn < 4096 {
+        let scattered = turn * (turn + 1) / 2 % 4096;
+        let operation = [READ, SET, CLEAR][turn % 3];
+        steps[2 * turn] = [operation, present[scattered % REGISTERS], 0];
+        steps[2 * turn + 1] = [operation, scattered as u64, 0];
+        turn += 1;
     }
     steps
+}
+
+/// In rising order.
+const fn present_numbers() -> [u64; REGISTERS] {
+    let mut numbers = [0; REGISTERS];
+    let mut found = 0;
+    let mut number = 0;
+    while number < 4096 {
+        if present(number) {
+            numbers[found] = number;
+            found += 1;
+        }
+        number += 1;
+    }
+    assert!(found == REGISTERS);
+    numbers
 }
 
 /// From mode M with MPP=U and back to it.

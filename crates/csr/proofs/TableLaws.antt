@@ -1,69 +1,71 @@
--- The table of [11] agrees with the rule at every address. Assumes nothing.
+-- How the rule is read off a number of the table, and the rows of the table. Assumes nothing.
 use Prim.Native.Nat.{ℕ, zero, suc, _+_, _*_, _≤_, _<_, _/_, _%_}
 use mathlib.Core.Path.{_≡_, refl, sym, ap, _∙_}
 use mathlib.Core.Bool.{Bool, true, false, not, cond, _&&_, _||_}
 use mathlib.Core.List.{List, [], _∷_}
 use mathlib.Core.Logic.{_≢_, ⊎-elim}
 use native.Mathlib.Omega.{arith}
-use native.Mathlib.Nat.{add-zero, le-of-suc-le-suc, not-suc-le-zero, eq-or-lt-of-le}
+use native.Mathlib.Nat.{le-of-suc-le-suc, not-suc-le-zero, eq-or-lt-of-le}
 use lib.Dec.{eqb, leb, ltb}
-use lib.ListN.{getD, replicate}
+use lib.ListN.{getD, replicate, getD-replicate}
 use borrow.Author.Tests.{ne-eqb, leb-true}
 use Rattle.bits.proofs.Conjunction.{both, not-true-false}
 use Rattle.registers.specs.declared.Registers.{Registers}
 use Rattle.steps.specs.declared.Operation.{Operation}
 use Rattle.csr.specs.Permit.{between, present, lowestMode, readOnly, attemptsWrite, counterHidden, translationTrapped, illegal}
-use Rattle.csr.specs.Table.{accessNumber, accessNumbers}
+use Rattle.csr.specs.Table.{accessibility}
 
--- ---- what a number says
+-- ---- the rule read off a number
 
-module _ (mode m : ℕ) (small : m < 4) (attempt rest : Bool) where
-  -- the tests on the number of a register, by whether it is present, its lowest mode and whether it is read-only
-  decoded : (here fixed : Bool)
-      → let number = cond here (1 + 2 * m + 8 * cond fixed 1 0) 0 in
+module _ (mode lowest : ℕ) (small : lowest < 4) (attempt rest : Bool) where
+  -- by what the number is made of: presence, lowest mode, read-only flag
+  by-parts : (isPresent isReadOnly : Bool)
+      → let number = cond isPresent (1 + 2 * lowest + 8 * cond isReadOnly 1 0) 0 in
       (eqb number 0 || (ltb mode (number / 2 % 4) || ((attempt && eqb (number / 8) 1) || rest)))
-      ≡ (not here || (ltb mode m || ((attempt && fixed) || rest)))
-  decoded false fixed = refl
-  decoded true true =
-      let low : (1 + 2 * m + 8) / 2 % 4 ≡ m = omega (arith, small) in
-      let high : (1 + 2 * m + 8) / 8 ≡ 1 = omega (arith, small) in
-      rw (ne-eqb (1 + 2 * m + 8) 0 (omega arith), low, high)
-  decoded true false =
-      let low : (1 + 2 * m + 0) / 2 % 4 ≡ m = omega (arith, small) in
-      let high : (1 + 2 * m + 0) / 8 ≡ 0 = omega (arith, small) in
-      rw (ne-eqb (1 + 2 * m + 0) 0 (omega arith), low, high)
+      ≡ (not isPresent || (ltb mode lowest || ((attempt && isReadOnly) || rest)))
+  by-parts false isReadOnly = refl
+  by-parts true true =
+      let mid : (1 + 2 * lowest + 8) / 2 % 4 ≡ lowest = omega (arith, small) in
+      let high : (1 + 2 * lowest + 8) / 8 ≡ 1 = omega (arith, small) in
+      rw (ne-eqb (1 + 2 * lowest + 8) 0 (omega arith), mid, high)
+  by-parts true false =
+      let mid : (1 + 2 * lowest + 0) / 2 % 4 ≡ lowest = omega (arith, small) in
+      let high : (1 + 2 * lowest + 0) / 8 ≡ 0 = omega (arith, small) in
+      rw (ne-eqb (1 + 2 * lowest + 0) 0 (omega arith), mid, high)
 
--- the rule, asked by the table's number: at every address, in every state
-pub agrees : (r : Registers) (operation : Operation) (n : ℕ)
-    → (eqb (accessNumber n) 0 || (ltb (r .mode) (accessNumber n / 2 % 4) || ((attemptsWrite operation && eqb (accessNumber n / 8) 1)
+-- at every address and in every state
+pub illegal-by-number : (r : Registers) (operation : Operation) (n : ℕ)
+    → (eqb (accessibility n) 0 || (ltb (r .mode) (accessibility n / 2 % 4) || ((attemptsWrite operation && eqb (accessibility n / 8) 1)
     || (translationTrapped r n || counterHidden r n))))
     ≡ illegal r operation n
 unfolding illegal
-agrees r operation n =
-    decoded (r .mode) (lowestMode n) (omega arith) (attemptsWrite operation) (translationTrapped r n || counterHidden r n) (present n) (readOnly n)
+illegal-by-number r operation n =
+    by-parts (r .mode) (lowestMode n) (omega arith) (attemptsWrite operation) (translationTrapped r n || counterHidden r n) (present n) (readOnly n)
 
--- ---- a row of the table
+-- ---- rows
 
--- the number at a place of a row
-place : (count n i : ℕ) → i < count → getD (accessNumbers count n) i 0 ≡ accessNumber (n + i)
-unfolding accessNumbers
+-- the numbers of so many addresses from n on
+unfoldable pub numbers : ℕ → ℕ → List ℕ
+numbers zero n = []
+numbers (suc count) n = accessibility n ∷ numbers count (n + 1)
+
+place : (count n i : ℕ) → i < count → getD (numbers count n) i 0 ≡ accessibility (n + i)
+unfolding numbers
 place zero n i h = absurd (not-suc-le-zero h)
-place (suc count) n zero h = ap accessNumber (omega arith)
-place (suc count) n (suc i) h = place count (n + 1) i (le-of-suc-le-suc h) ∙ ap accessNumber (omega arith)
+place (suc count) n zero h = ap accessibility (omega arith)
+place (suc count) n (suc i) h = place count (n + 1) i (le-of-suc-le-suc h) ∙ ap accessibility (omega arith)
 
 -- an address by its row and its place in it
-pub by-row : (n : ℕ) (row : List ℕ) → row ≡ accessNumbers 16 (16 * (n / 16)) → getD row (n % 16) 0 ≡ accessNumber n
-by-row n row e = ap (λ (l : List ℕ). getD l (n % 16) 0) e ∙ (place 16 (16 * (n / 16)) (n % 16) (omega arith) ∙ ap accessNumber (omega arith))
+pub in-row : (row n : ℕ) → n / 16 ≡ row → getD (numbers 16 (16 * row)) (n % 16) 0 ≡ accessibility n
+in-row row n e = place 16 (16 * row) (n % 16) (omega arith) ∙ ap accessibility (omega (arith, e))
 
--- a row without a register
-pub empty : (count n : ℕ) → ((i : ℕ) → i < count → present (n + i) ≡ false) → replicate count 0 ≡ accessNumbers count n
-unfolding accessNumbers
-empty zero n f = refl
-empty (suc count) n f =
-    let first : present n ≡ false = ap present (sym (add-zero n)) ∙ f 0 (omega arith) in
-    rw (first, empty count (n + 1) (λ i h. ap present (omega arith) ∙ f (suc i) (omega (arith, h))))
+-- an address in a row without a register
+pub in-absent-row : (n : ℕ) → ((i : ℕ) → i < 16 → present (16 * (n / 16) + i) ≡ false) → getD (replicate 16 0) (n % 16) 0 ≡ accessibility n
+in-absent-row n f =
+    let here : present n ≡ false = ap present (omega arith) ∙ f (n % 16) (omega arith) in
+    getD-replicate 16 (n % 16) 0 0 (omega arith) ∙ rw here
 
--- ---- a row in which no number is present
+-- ---- a row in which no register is present
 
 module _ (row i : ℕ) (h : i < 16) where
   one-out : (k q : ℕ) → 16 * q ≤ k → k < 16 * q + 16 → row ≢ q → eqb (16 * row + i) k ≡ false

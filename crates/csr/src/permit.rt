@@ -1,5 +1,5 @@
 // Which accesses are an illegal instruction.
-use crate::table::access_number;
+use crate::table::accessibility;
 use registers::Registers;
 use steps::Operation;
 ghost use mathlib.Core.Path.{_≡_};
@@ -38,7 +38,7 @@ fn is_counter_hidden(r: Registers, n: u64) -> bool
 pub fn is_illegal(r: Registers, operation: Operation, number: u64) -> bool
     ensures { λ answer. ⌜ answer ≡ illegal r operation number ⌝ }
 {
-    let access = access_number(number);
+    let access = accessibility(number);
     let absent = access == 0;
     let below = r.mode < (access / 2 % 4) as u64;
     let read_only = attempts_write(operation) & (access / 8 == 1);
