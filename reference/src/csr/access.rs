@@ -58,8 +58,8 @@ impl Judge for Rule {
 }
 
 impl Hart {
-    /// What hangs on other registers than the mode. True for every number that
-    /// these do not close, present or not.
+    /// Whether neither TVM nor the counter enables close the number to the hart's
+    /// mode. True for every number that they do not bear on, present or not.
     #[inline]
     pub fn is_open(&self, number: u64) -> bool {
         !self.satp_trapped(number) && self.counter_enabled(number)

@@ -12,7 +12,8 @@
 //!
 //! The last line tells how many CSR steps of the walks were done, refused, or illegal
 //! for each reason of document 01. In each walk these must be exactly as many as
-//! counted by hand in `registers.rs`, or the comparison fails.
+//! counted by hand in `registers.rs`, and no access that the rule can tell from others
+//! may be missing, or the comparison fails.
 //!
 //! It also tells how many accepted steps 7 were compared, and in how many of them the
 //! single order of document 01 would have chosen another interrupt than request [2]

@@ -1,5 +1,7 @@
 //! Every access to a CSR that the access rule of document 01 tells apart.
 
+use std::collections::HashSet;
+
 use reference::random::Random;
 use reference::{Hart, Mode, STEP_WORDS, generate, status};
 
@@ -39,6 +41,10 @@ const EXPECTED: [u64; REASONS] = [
     2 * (92 * 7 + 5) + (2 * 11 * 2 * 7 - 7) + (31 * 32 + 2 * 16 + 2 * 8),
 ];
 
+/// How many different things `told_apart` can give: C00 to C1F have 32 settings as
+/// above and the other numbers 2, each in 3 modes by 4 operations.
+const TOLD_APART: usize = (32 * 32 + (4096 - 32) * 2) * 3 * 4;
+
 /// Numbers above 4095: the first, the last, and others that lose their meaning when
 /// cut to fewer bits.
 const NO_NUMBERS: [u64; 16] = [
@@ -63,11 +69,14 @@ const WRITES: [u64; 3] = [1, 2, 3];
 /// What mcounteren and scounteren can hold.
 const ENABLES: [u64; 4] = [0, 1, 4, 5];
 
-/// Every number with all that its access hangs on, each from a state that is random
-/// in all else. Gives how many steps there were for each reason, which must be as
-/// many as counted by hand.
+/// Every number with all that its access hangs on. The seven accesses of a setting
+/// are from one state, which is random in all else. Gives how many steps there were
+/// for each reason, which must be as many as counted by hand. These would not tell
+/// whether one absent number was done twice in place of another, so no access that
+/// is told apart may be missing.
 pub fn walk(sizes: &Sizes) -> Result<Reasons, Difference> {
     let mut reasons = Reasons::new();
+    let mut seen = HashSet::new();
     let settings = settings();
     let cases = sizes.walks * settings.len() as u64;
     Stage::new("registers", sizes, cases).run(|random, case| {
@@ -77,13 +86,38 @@ pub fn walk(sizes: &Sizes) -> Result<Reasons, Difference> {
         let lent = Lent { hart: hart.to_words(), map: map.to_words() };
         for words in accesses(random, setting.number) {
             reasons.count(&hart, words, compare_ways(&lent, words)?)?;
+            seen.extend(told_apart(&hart, words));
         }
         Ok(())
     })?;
     if sizes.only.is_none() {
         reasons.check("registers", EXPECTED.map(|count| sizes.walks * count))?;
+        check_seen(seen.len(), if sizes.walks == 0 { 0 } else { TOLD_APART })?;
     }
     Ok(reasons)
+}
+
+/// What the access rule can tell an access by: operation, number, mode, TVM and, for
+/// C00 to C1F, mcounteren and scounteren. Nothing for numbers above 4095, nor for a
+/// write attempt with another operand than 0, as each comes with 0 too.
+fn told_apart(hart: &Hart, [step, number, operand]: [u64; STEP_WORDS]) -> Option<[u64; 6]> {
+    let enables = match number {
+        0xC00..=0xC1F => [hart.mcounteren, hart.scounteren],
+        NUMBERS.. => return None,
+        _ => [0, 0],
+    };
+    let tvm = hart.mstatus & status::TVM;
+    (step == READ || operand == 0).then_some([step, number, hart.mode, tvm, enables[0], enables[1]])
+}
+
+fn check_seen(seen: usize, expected: usize) -> Result<(), Difference> {
+    if seen == expected {
+        return Ok(());
+    }
+    Err(Difference(format!(
+        "registers\nthe walks do not have every access as they must: of those told apart \
+         {seen} are among them, and {expected} must be"
+    )))
 }
 
 /// What the access rule hangs on, the operation apart.
@@ -127,8 +161,8 @@ fn enables(number: u64) -> Vec<Option<[u64; 2]>> {
     }
 }
 
-/// Write, set and clear, each with operand 0, which is a write attempt too, and with
-/// one that tells something; and a read.
+/// A read; and write, set and clear, each once with operand 0, which is a write
+/// attempt too, and once with a random one.
 fn accesses(random: &mut Random, number: u64) -> Vec<[u64; STEP_WORDS]> {
     let mut accesses = vec![[READ, number, random.telling_word()]];
     for write in WRITES {

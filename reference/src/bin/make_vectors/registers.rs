@@ -1,19 +1,15 @@
 //! Every CSR number in M, the numbers of S and U in their modes, and accesses that
 //! hang on TVM and on the counter enables.
 
+use reference::csr::number::{MCOUNTEREN, MEPC, MSTATUS, SATP, SCOUNTEREN, SSTATUS};
 use reference::csr::present;
 use reference::random::Random;
+use reference::status::TVM;
 use reference::{Hart, MACHINE, SUPERVISOR, USER, generate};
 
-use crate::traps::{MSTATUS, WRITE};
+use crate::steps::{CLEAR, ECALL, MRET, READ, SET, SRET, WRITE};
 use crate::vector::Vector;
 
-const SET: u64 = 2;
-const CLEAR: u64 = 3;
-const READ: u64 = 4;
-const MRET: u64 = 8;
-const ECALL: u64 = 11;
-const TVM: u64 = 1 << 20;
 const ALL_ENABLED: [u64; 2] = [5, 5];
 
 pub fn vectors(seed: u64) -> Vec<Vector> {
@@ -35,8 +31,8 @@ pub fn vectors(seed: u64) -> Vec<Vector> {
 }
 
 fn csr_step(random: &mut Random, number: u64) -> [u64; 3] {
-    let step = 1 + random.below(4);
-    let operand = if step == 4 { 0 } else { generate::csr_operand(random, number) };
+    let step = WRITE + random.below(4);
+    let operand = if step == READ { 0 } else { generate::csr_operand(random, number) };
     [step, number, operand]
 }
 
@@ -56,13 +52,13 @@ fn unprivileged(random: &mut Random, name: &str, mode: u64) -> Vector {
         ..Hart::reset()
     };
     let near = |&number: &u64| present(number) || number > 0 && present(number - 1);
-    let back = [[2, 0x100, mode << 8], [9, 0, 0]];
+    let back = [[SET, SSTATUS, mode << 8], [SRET, 0, 0]];
     let mut steps = Vec::new();
     for number in (0..4096).filter(near) {
-        steps.push([4, number, 0]);
+        steps.push([READ, number, 0]);
         steps.extend(back);
         // sstatus is only read: a write could send SRET to another mode.
-        if number != 0x100 {
+        if number != SSTATUS {
             steps.push(csr_step(random, number));
             steps.extend(back);
         }
@@ -75,8 +71,10 @@ fn unprivileged(random: &mut Random, name: &str, mode: u64) -> Vector {
 fn by_state() -> Vector {
     let mut steps = Vec::new();
     for mode in [USER, SUPERVISOR, MACHINE] {
-        for (tvm, operation) in [0, TVM].map(|tvm| [1, 2, 3, 4].map(|step| (tvm, step))).concat() {
-            steps.extend(in_mode(mode, tvm, ALL_ENABLED, [operation, 0x180, 0]));
+        for tvm in [0, TVM] {
+            for operation in [WRITE, SET, CLEAR, READ] {
+                steps.extend(in_mode(mode, tvm, ALL_ENABLED, [operation, SATP, 0]));
+            }
         }
         for enables in [ALL_ENABLED, [0, 5], [5, 0], [1, 5], [4, 5], [5, 1], [5, 4]] {
             for number in [0xC00, 0xC01, 0xC02, 0xC03, 0xC1F] {
@@ -97,9 +95,9 @@ fn by_state() -> Vector {
 fn in_mode(mode: u64, tvm: u64, enables: [u64; 2], step: [u64; 3]) -> [[u64; 3]; 7] {
     let [mcounteren, scounteren] = enables;
     [
-        [WRITE, 0x306, mcounteren],
-        [WRITE, 0x106, scounteren],
-        [WRITE, 0x341, 0x4000],
+        [WRITE, MCOUNTEREN, mcounteren],
+        [WRITE, SCOUNTEREN, scounteren],
+        [WRITE, MEPC, 0x4000],
         [WRITE, MSTATUS, tvm | mode << 11],
         [MRET, 0, 0],
         step,
