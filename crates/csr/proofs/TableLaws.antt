@@ -1,14 +1,14 @@
 -- How the rule is read off a number of the table, and the rows of the table. Assumes nothing.
 use Prim.Native.Nat.{ℕ, zero, suc, _+_, _*_, _≤_, _<_, _/_, _%_}
 use mathlib.Core.Path.{_≡_, refl, sym, ap, _∙_}
-use mathlib.Core.Bool.{Bool, true, false, not, cond, _&&_, _||_}
+use mathlib.Core.Bool.{Bool, true, false, not, cond, _&&_, _||_, and-false, or-false}
 use mathlib.Core.List.{List, [], _∷_}
 use mathlib.Core.Logic.{_≢_, ⊎-elim}
 use native.Mathlib.Omega.{arith}
 use native.Mathlib.Nat.{le-of-suc-le-suc, not-suc-le-zero, eq-or-lt-of-le}
 use lib.Dec.{eqb, leb, ltb}
 use lib.ListN.{getD, replicate, getD-replicate}
-use borrow.Author.Tests.{ne-eqb, leb-true}
+use borrow.Author.Tests.{le-ltb, ne-eqb, leb-true}
 use Rattle.bits.proofs.Conjunction.{both, not-true-false}
 use Rattle.registers.specs.declared.Registers.{Registers}
 use Rattle.steps.specs.declared.Operation.{Operation}
@@ -17,30 +17,46 @@ use Rattle.csr.specs.Table.{accessibility}
 
 -- ---- the rule read off a number
 
+swap : (a b c : Bool) → (a || (b || c)) ≡ (b || (a || c))
+swap true true c = refl
+swap true false c = refl
+swap false b c = refl
+
 module _ (mode lowest : ℕ) (small : lowest < 4) (attempt rest : Bool) where
   -- by what the number is made of: presence, lowest mode, read-only flag
   by-parts : (isPresent isReadOnly : Bool)
       → let number = cond isPresent (1 + 2 * lowest + 8 * cond isReadOnly 1 0) 0 in
-      (eqb number 0 || (ltb mode (number / 2 % 4) || ((attempt && eqb (number / 8) 1) || rest)))
+      ((eqb number 0 || (attempt && eqb (number / 8) 1)) || (ltb mode (number / 2 % 4) || rest))
       ≡ (not isPresent || (ltb mode lowest || ((attempt && isReadOnly) || rest)))
   by-parts false isReadOnly = refl
   by-parts true true =
       let mid : (1 + 2 * lowest + 8) / 2 % 4 ≡ lowest = omega (arith, small) in
       let high : (1 + 2 * lowest + 8) / 8 ≡ 1 = omega (arith, small) in
-      rw (ne-eqb (1 + 2 * lowest + 8) 0 (omega arith), mid, high)
+      rw (ne-eqb (1 + 2 * lowest + 8) 0 (omega arith), mid, high) (swap (attempt && true) (ltb mode lowest) rest)
   by-parts true false =
       let mid : (1 + 2 * lowest + 0) / 2 % 4 ≡ lowest = omega (arith, small) in
       let high : (1 + 2 * lowest + 0) / 8 ≡ 0 = omega (arith, small) in
-      rw (ne-eqb (1 + 2 * lowest + 0) 0 (omega arith), mid, high)
+      rw (ne-eqb (1 + 2 * lowest + 0) 0 (omega arith), mid, high) (swap (attempt && false) (ltb mode lowest) rest)
 
--- at every address and in every state
-pub illegal-by-number : (r : Registers) (operation : Operation) (n : ℕ)
-    → (eqb (accessibility n) 0 || (ltb (r .mode) (accessibility n / 2 % 4) || ((attemptsWrite operation && eqb (accessibility n / 8) 1)
-    || (translationTrapped r n || counterHidden r n))))
-    ≡ illegal r operation n
-unfolding illegal
-illegal-by-number r operation n =
-    by-parts (r .mode) (lowestMode n) (omega arith) (attemptsWrite operation) (translationTrapped r n || counterHidden r n) (present n) (readOnly n)
+module _ (r : Registers) (operation : Operation) (n : ℕ) where
+  -- by the address alone, whatever the mode: no register, or a write attempt to a read-only one
+  abbrev barred : Bool
+  barred = eqb (accessibility n) 0 || (attemptsWrite operation && eqb (accessibility n / 8) 1)
+
+  abbrev closed : Bool
+  closed = ltb (r .mode) (accessibility n / 2 % 4) || (translationTrapped r n || counterHidden r n)
+
+  -- at every address and in every state
+  pub illegal-by-number : (barred || closed) ≡ illegal r operation n
+  unfolding illegal
+  illegal-by-number =
+      by-parts (r .mode) (lowestMode n) (omega arith) (attemptsWrite operation) (translationTrapped r n || counterHidden r n) (present n) (readOnly n)
+
+  -- to M nothing is closed
+  pub illegal-to-machine : r .mode ≡ 3 → barred ≡ illegal r operation n
+  illegal-to-machine e =
+      let none : closed ≡ false = rw (e, le-ltb 3 (accessibility n / 2 % 4) (omega arith), and-false (eqb n 0x180), and-false (between 0xC00 0xC1F n)) in
+      sym (or-false barred) ∙ (ap (λ (b : Bool). barred || b) (sym none) ∙ illegal-by-number)
 
 -- ---- rows
 

@@ -34,15 +34,18 @@ fn is_counter_hidden(r: Registers, n: u64) -> bool
     ((mode != 3) & (machine != 1)) | ((mode == 0) & (supervisor != 1))
 }
 
-// Whether the access is an illegal instruction, for any number.
+// Whether the access is an illegal instruction, for any number. What the table says comes first; to M nothing is closed that hangs on the state.
 pub fn is_illegal(r: Registers, operation: Operation, number: u64) -> bool
     ensures { λ answer. ⌜ answer ≡ illegal r operation number ⌝ }
 {
+    let mode = r.mode;
     let access = accessibility(number);
-    let absent = access == 0;
-    let below = r.mode < (access / 2 % 4) as u64;
-    let read_only = attempts_write(operation) & (access / 8 == 1);
-    let trapped = (number == 0x180) & ((r.mode == 1) & ((r.mstatus >> 20) % 2 == 1));
+    let barred = (access == 0) | (attempts_write(operation) & (access / 8 == 1));
+    if mode == 3 {
+        return barred;
+    }
+    let below = mode < (access / 2 % 4) as u64;
+    let trapped = (number == 0x180) & ((mode == 1) & ((r.mstatus >> 20) % 2 == 1));
     let hidden = is_counter_hidden(r, number);
-    absent | (below | (read_only | (trapped | hidden)))
+    barred | (below | (trapped | hidden))
 }

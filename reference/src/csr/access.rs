@@ -61,7 +61,7 @@ impl Hart {
     /// Whether neither TVM nor the counter enables close the number to the hart's
     /// mode. True for every number that they do not bear on, present or not.
     #[inline]
-    pub fn is_open(&self, number: u64) -> bool {
+    fn is_open(&self, number: u64) -> bool {
         !self.satp_trapped(number) && self.counter_enabled(number)
     }
 
