@@ -14,7 +14,7 @@ const READ_ONLY: u8 = 8;
 /// How many numbers from CYCLE on are those of counters.
 const COUNTERS: u64 = 32;
 
-/// What does not hang on the state, for each number; 0 where no register is present.
+/// What does not depend on the state, for each number; 0 where no register is present.
 static TABLE: [u8; NUMBERS] = table();
 
 const fn table() -> [u8; NUMBERS] {
@@ -48,7 +48,7 @@ impl Judge for Table {
     }
 }
 
-/// What hangs on the state, once the table has let the access through.
+/// What depends on the state, once the table has let the access through.
 #[inline]
 fn is_open(hart: &Hart, number: u64) -> bool {
     let counter = number.wrapping_sub(CYCLE);

@@ -1,4 +1,4 @@
--- 02, [11]: what of an access hangs on the address alone, as one number for each of the 4,096 CSR addresses.
+-- 02, [11]: what of an access depends on the address alone, as one number for each of the 4,096 CSR addresses.
 use Prim.Native.Nat.{ℕ, _+_, _*_}
 use mathlib.Core.Bool.{cond}
 use Rattle.csr.specs.Permit.{present, lowestMode, readOnly}

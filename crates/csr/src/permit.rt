@@ -34,7 +34,7 @@ fn is_counter_hidden(r: Registers, n: u64) -> bool
     ((mode != 3) & (machine != 1)) | ((mode == 0) & (supervisor != 1))
 }
 
-// Whether the access is an illegal instruction, for any number. What the table says comes first; to M nothing is closed that hangs on the state.
+// Whether the access is an illegal instruction, for any number. What the table says comes first; nothing in the state closes a register to M.
 pub fn is_illegal(r: Registers, operation: Operation, number: u64) -> bool
     ensures { λ answer. ⌜ answer ≡ illegal r operation number ⌝ }
 {
