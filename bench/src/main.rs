@@ -7,6 +7,7 @@
 mod checksum;
 mod contest;
 mod count;
+mod csr_table;
 mod mixes;
 mod one_pass;
 mod processor;

@@ -1,5 +1,6 @@
 //! The mixes of steps: those of the Rattle program `step_speed`, in its order.
 
+use reference::csr::present;
 use reference::{Hart, Map, Step, step};
 
 pub type Words = [u64; 3];
@@ -10,15 +11,38 @@ pub struct Mix {
     pub number: u64,
     /// How many steps are timed at once, a multiple of a batch.
     pub count: u64,
-    pub steps: [Words; 16],
+    /// Steps to be done over and over. Their number divides a batch, or is a
+    /// multiple of it.
+    pub steps: &'static [Words],
+    /// How the plain Rust programs judge CSR accesses.
+    pub judgement: Judgement,
 }
 
-pub const MIXES: [Mix; 4] = [
-    Mix { name: "CSR steps", number: 1, count: 512_000, steps: CSR },
-    Mix { name: "traps and returns", number: 2, count: 512_000, steps: TRAPS },
-    Mix { name: "accesses, on the registers", number: 3, count: 204_800, steps: ACCESSES },
-    Mix { name: "PMP writes, map compiled", number: 4, count: 51_200, steps: PROTECTION },
+#[derive(Clone, Copy)]
+pub enum Judgement {
+    /// By the rule, as the reference does.
+    Rule,
+    /// By a table of all numbers, as request [11] of document 02 asks.
+    Table,
+}
+
+pub static MIXES: [Mix; 5] = [
+    by_rule("CSR steps", 1, 512_000, &CSR),
+    by_rule("traps and returns", 2, 512_000, &TRAPS),
+    by_rule("accesses, on the registers", 3, 204_800, &ACCESSES),
+    by_rule("PMP writes, map compiled", 4, 51_200, &PROTECTION),
+    Mix {
+        name: "CSR steps, present and absent",
+        number: 5,
+        count: 1_024_000,
+        steps: &ANY_NUMBER,
+        judgement: Judgement::Table,
+    },
 ];
+
+const fn by_rule(name: &'static str, number: u64, count: u64, steps: &'static [Words; 16]) -> Mix {
+    Mix { name, number, count, steps, judgement: Judgement::Rule }
+}
 
 const WRITE: u64 = 1;
 const SET: u64 = 2;
@@ -56,6 +80,43 @@ const CSR: [Words; 16] = [
     [WRITE, 0x143, 0x42],
     [READ, 0xC02, 0],
 ];
+
+/// Numbers with and without a register, in turn and scattered: the second of each
+/// pair goes over all 4,096 numbers. Operand 0 changes no protection register, so no
+/// map is compiled.
+static ANY_NUMBER: [Words; 2 * 4096] = any_number();
+/// How many numbers have a register.
+const REGISTERS: usize = 139;
+
+const fn any_number() -> [Words; 2 * 4096] {
+    let present = present_numbers();
+    let mut steps = [[0; 3]; 2 * 4096];
+    let mut turn = 0;
+    while turn < 4096 {
+        let scattered = turn * (turn + 1) / 2 % 4096;
+        let operation = [READ, SET, CLEAR][turn % 3];
+        steps[2 * turn] = [operation, present[scattered % REGISTERS], 0];
+        steps[2 * turn + 1] = [operation, scattered as u64, 0];
+        turn += 1;
+    }
+    steps
+}
+
+/// In rising order.
+const fn present_numbers() -> [u64; REGISTERS] {
+    let mut numbers = [0; REGISTERS];
+    let mut found = 0;
+    let mut number = 0;
+    while number < 4096 {
+        if present(number) {
+            numbers[found] = number;
+            found += 1;
+        }
+        number += 1;
+    }
+    assert!(found == REGISTERS);
+    numbers
+}
 
 /// From mode M with MPP=U and back to it.
 const TRAPS: [Words; 16] = [

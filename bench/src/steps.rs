@@ -1,20 +1,25 @@
 //! Steps: the reference changed in place and by value, the product through its
-//! C interface, and the method `Hart::step` in the Rattle program `step_speed`.
+//! C interface, and the method `Hart::step` in the Rattle program `step_speed`. In
+//! the mix of present and absent numbers the reference judges CSR accesses by a table.
 
 use std::error::Error;
 use std::hint::black_box;
 use std::process::{Command, Stdio};
 use std::time::Duration;
 
-use reference::{ANSWER_WORDS, Answer, HART_WORDS, Hart, MAP_WORDS, Map, Step, capi, step};
+use reference::csr::{Judge, Rule};
+use reference::{
+    ANSWER_WORDS, Answer, HART_WORDS, Hart, MAP_WORDS, Map, STEP_WORDS, Step, capi, step_judged_by,
+};
 
 use crate::checksum::Checksum;
 use crate::contest::{Work, contest};
-use crate::mixes::{MIXES, Mix, Words, formed, setting};
+use crate::csr_table::{self, Table};
+use crate::mixes::{Judgement, MIXES, Mix, Words, formed, setting};
 use crate::processor;
 
 const PROGRAM: &str = "target/bin/step_speed";
-/// Steps of one call of `tegrwyllt_run`, a multiple of a mix.
+/// Steps of one call of `tegrwyllt_run`.
 pub const BATCH: usize = 1_024;
 /// The part of the steps that is timed to be taken off, with the start-up.
 const SHORT: u64 = 8;
@@ -30,6 +35,7 @@ pub struct Row {
 }
 
 pub fn rows(rounds: u32) -> Result<Vec<Row>, Box<dyn Error>> {
+    csr_table::compare()?;
     MIXES.iter().map(|mix| row(rounds, mix)).collect()
 }
 
@@ -56,12 +62,13 @@ fn row(rounds: u32, mix: &Mix) -> Result<Row, Box<dyn Error>> {
     })
 }
 
-/// All must leave and answer the same, also where they are timed.
+/// All must leave and answer as the reference does, also where they are timed.
 fn compare(mix: &Mix) -> Result<(), Box<dyn Error>> {
-    let wanted = in_place(mix, mix.count);
-    let ways: [fn(&Mix, u64) -> Checksum; 4] = [by_value, one_by_one, in_batches, by_program];
+    let wanted = in_place_judged_by::<Rule>(mix, mix.count);
+    let ways: [fn(&Mix, u64) -> Checksum; 5] =
+        [in_place, by_value, one_by_one, in_batches, by_program];
     let found = ways.map(|way| way(mix, mix.count));
-    if found != [wanted; 4] {
+    if found != [wanted; 5] {
         return Err(format!("{}: {found:?} in place of {wanted:?}", mix.name).into());
     }
     Ok(())
@@ -85,10 +92,17 @@ fn start() -> ([u64; HART_WORDS], [u64; MAP_WORDS]) {
 }
 
 fn in_place(mix: &Mix, count: u64) -> Checksum {
+    match mix.judgement {
+        Judgement::Rule => in_place_judged_by::<Rule>(mix, count),
+        Judgement::Table => in_place_judged_by::<Table>(mix, count),
+    }
+}
+
+fn in_place_judged_by<J: Judge>(mix: &Mix, count: u64) -> Checksum {
     let (mut hart, mut map): (Hart, Map) = setting();
     let mut sum = Checksum::default();
     for &words in endless(mix).take(count as usize) {
-        sum.add_answer(step(&mut hart, &mut map, formed(words)).words());
+        sum.add_answer(step_judged_by::<J>(&mut hart, &mut map, formed(words)).words());
     }
     sum.add_left(&hart.to_words(), &map.to_words());
     sum
@@ -97,17 +111,24 @@ fn in_place(mix: &Mix, count: u64) -> Checksum {
 /// The form of `Hart::step`: hart and map go in by value, and both come back.
 /// A call stays a call, or the compiler would change them in place again.
 #[inline(never)]
-fn stepped(mut hart: Hart, mut map: Map, next: Step) -> (Hart, Map, Answer) {
-    let answer = step(&mut hart, &mut map, next);
+fn stepped<J: Judge>(mut hart: Hart, mut map: Map, next: Step) -> (Hart, Map, Answer) {
+    let answer = step_judged_by::<J>(&mut hart, &mut map, next);
     (hart, map, answer)
 }
 
 fn by_value(mix: &Mix, count: u64) -> Checksum {
+    match mix.judgement {
+        Judgement::Rule => by_value_judged_by::<Rule>(mix, count),
+        Judgement::Table => by_value_judged_by::<Table>(mix, count),
+    }
+}
+
+fn by_value_judged_by<J: Judge>(mix: &Mix, count: u64) -> Checksum {
     let (mut hart, mut map): (Hart, Map) = setting();
     let mut sum = Checksum::default();
     for &words in endless(mix).take(count as usize) {
         let answer;
-        (hart, map, answer) = stepped(hart, map, formed(words));
+        (hart, map, answer) = stepped::<J>(hart, map, formed(words));
         sum.add_answer(answer.words());
     }
     sum.add_left(&hart.to_words(), &map.to_words());
@@ -129,10 +150,12 @@ fn one_by_one(mix: &Mix, count: u64) -> Checksum {
 fn in_batches(mix: &Mix, count: u64) -> Checksum {
     let (mut hart, mut map) = start();
     let mut sum = Checksum::default();
-    let steps: Vec<u64> = endless(mix).take(BATCH).flatten().copied().collect();
+    let period = BATCH.max(mix.steps.len());
+    let steps: Vec<u64> = endless(mix).take(period).flatten().copied().collect();
+    let batches = steps.chunks_exact(STEP_WORDS * BATCH).cycle();
     let mut answers = vec![0; ANSWER_WORDS * BATCH];
-    for _ in 0..count / BATCH as u64 {
-        capi::run(&mut hart, &mut map, &steps, &mut answers);
+    for batch in batches.take(count as usize / BATCH) {
+        capi::run(&mut hart, &mut map, batch, &mut answers);
         answers.as_chunks().0.iter().for_each(|&answer| sum.add_answer(answer));
     }
     sum.add_left(&hart, &map);
@@ -141,7 +164,7 @@ fn in_batches(mix: &Mix, count: u64) -> Checksum {
 
 /// The mix over and over; its steps are hidden from the compiler.
 fn endless(mix: &Mix) -> impl Iterator<Item = &Words> {
-    black_box(&mix.steps).iter().cycle()
+    black_box(mix.steps).iter().cycle()
 }
 
 /// The checksum at the end of the line that the program writes.
@@ -161,7 +184,7 @@ fn by_program(mix: &Mix, count: u64) -> Checksum {
 /// reference.
 pub fn expected_lines(count: u64) -> String {
     let line = |mix: &Mix| {
-        let sum = in_place(mix, count);
+        let sum = in_place_judged_by::<Rule>(mix, count);
         format!("mix {} steps {count} checksum {:016x}\n", mix.number, sum.0)
     };
     MIXES.iter().map(line).collect()

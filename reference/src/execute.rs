@@ -1,6 +1,7 @@
 //! One step of a hart.
 
 use crate::answer::{Answer, Refusal, Ruling};
+use crate::csr::{Judge, Rule};
 use crate::hart::Hart;
 use crate::holdable::{mask, within};
 use crate::map::Map;
@@ -16,20 +17,25 @@ const INSTRET_INHIBIT: u64 = 1 << 2;
 
 /// Does one step in place. A refusal changes neither hart nor map.
 pub fn step(hart: &mut Hart, map: &mut Map, step: Step) -> Answer {
+    step_judged_by::<Rule>(hart, map, step)
+}
+
+/// The same, with another way to judge CSR accesses in place of the rule.
+pub fn step_judged_by<J: Judge>(hart: &mut Hart, map: &mut Map, step: Step) -> Answer {
     if step != Step::Reset && !hart.can_hold() {
         return Answer::Refused(Refusal::State);
     }
-    hart.execute(map, step)
+    hart.execute::<J>(map, step)
 }
 
 impl Hart {
-    fn execute(&mut self, map: &mut Map, step: Step) -> Answer {
+    fn execute<J: Judge>(&mut self, map: &mut Map, step: Step) -> Answer {
         match step {
             Step::Reset => self.restart(map),
             Step::CsrWrite { number, operation, operand } => {
-                self.csr_write_step(map, number, operation, operand)
+                self.csr_write_step::<J>(map, number, operation, operand)
             }
-            Step::CsrRead { number } => self.csr_read_step(number),
+            Step::CsrRead { number } => self.csr_read_step::<J>(number),
             Step::Raise { cause, value } => self.raise(cause, value),
             Step::Lines { lines } => self.replace_lines(lines),
             Step::TakeInterrupt => self.take_interrupt(),

@@ -27,7 +27,7 @@ mod text;
 mod trap;
 
 pub use answer::{ANSWER_WORDS, Answer, Cause, Entry, Refusal, Ruling, Verdict};
-pub use execute::step;
+pub use execute::{step, step_judged_by};
 pub use hart::{HART_WORDS, Hart, MACHINE, Mode, SUPERVISOR, USER};
 pub use holdable::mask;
 pub use map::{MAP_WORDS, Map, NONE, RANGES, Range};

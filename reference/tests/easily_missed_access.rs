@@ -1,15 +1,12 @@
 //! Rules easily missed about refusals and access to CSRs, numbered as in the
-//! list of readings.
+//! list of readings. B6 and B7 are in `register_numbers.rs`.
 
 mod common;
 
 use common::*;
-use reference::csr::present;
 use reference::{
     Access, Answer, Hart, MACHINE, Map, Mode, Refusal, SUPERVISOR, USER, Verdict, query, save,
 };
-
-const TVM: u64 = 1 << 20;
 
 fn damaged() -> Hart {
     Hart { pc: 2, ..in_mode(USER) }
@@ -99,61 +96,6 @@ fn b5_absent_though_the_standard_has_them() {
     for number in named.into_iter().chain(ranges) {
         for operation in [WRITE, SET, CLEAR, READ] {
             assert_eq!(run(&Hart::reset(), operation, number, 0).1, illegal());
-        }
-    }
-}
-
-#[test]
-fn exactly_the_named_numbers_are_present() {
-    let machine = 5 + 7 + 1 + 1 + 29 + 5 + 2 + 16 + 2 + 29;
-    let supervisor = 4 + 1 + 5 + 1;
-    let unprivileged = 2 + 29;
-    let count = (0..4096).filter(|&number| present(number)).count();
-    assert_eq!(count, machine + supervisor + unprivileged);
-}
-
-#[test]
-fn b6_counters() {
-    let read = |mode, mcounteren, scounteren, number| {
-        let hart = Hart { mcounteren, scounteren, mcycle: 7, minstret: 9, ..in_mode(mode) };
-        run(&hart, READ, number, 0).1
-    };
-    for (number, bit, value) in [(0xC00, 1, 7), (0xC02, 4, 9)] {
-        assert_eq!(read(MACHINE, 0, 0, number), Answer::Value(value));
-        assert_eq!(read(SUPERVISOR, bit, 0, number), Answer::Value(value));
-        assert_eq!(read(SUPERVISOR, 5 - bit, 5, number), illegal());
-        assert_eq!(read(USER, bit, bit, number), Answer::Value(value));
-        assert_eq!(read(USER, bit, 5 - bit, number), illegal());
-        assert_eq!(read(USER, 5 - bit, bit, number), illegal());
-    }
-    for number in 0xC03..=0xC1F {
-        assert_eq!(read(MACHINE, 0, 0, number), Answer::Value(0));
-        assert_eq!(read(SUPERVISOR, 5, 5, number), illegal());
-        assert_eq!(read(USER, 5, 5, number), illegal());
-    }
-}
-
-#[test]
-fn b7_satp_under_tvm() {
-    for operation in [WRITE, SET, CLEAR, READ] {
-        let under = |mode, trap| {
-            let hart = Hart { mstatus: 0xA_0000_0000 | trap, ..in_mode(mode) };
-            run(&hart, operation, 0x180, 5).1
-        };
-        assert_eq!(under(SUPERVISOR, TVM), illegal());
-        assert_eq!(under(SUPERVISOR, 0), Answer::Value(0));
-        assert_eq!(under(MACHINE, TVM), Answer::Value(0));
-        assert_eq!(under(USER, 0), illegal());
-    }
-}
-
-#[test]
-fn a_mode_below_bits_9_and_8_is_illegal() {
-    for number in 0..4096 {
-        for mode in [USER, SUPERVISOR] {
-            if mode < (number >> 8 & 3) {
-                assert_eq!(run(&in_mode(mode), READ, number, 0).1, illegal());
-            }
         }
     }
 }

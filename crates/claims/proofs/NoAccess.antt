@@ -4,7 +4,7 @@ use mathlib.Core.Bool.{false}
 use Rattle.steps.specs.declared.Step.{Step}
 use Rattle.steps.specs.Decode.{isAccess}
 use Rattle.state.specs.Hold.{canHold}
-use Rattle.trap.proofs.Answers.{Unowned}
+use Rattle.trap.proofs.Answers.{OfNoAccess}
 use Rattle.map.specs.declared.Map.{Map}
 use Rattle.engine.specs.Effects.{stepRule}
 use Rattle.engine.proofs.Answers.{other-answer}
@@ -14,11 +14,11 @@ use Rattle.hart.specs.Steps.{stepped}
 use Rattle.hart.proofs.StepLaws.{step-parts}
 use Rattle.claims.specs.Consequences.{NoEntry}
 
-unowned : Unowned NoEntry
-unowned = record { done = tt; value = λ old. tt; flag = λ yes. tt; refused = λ number. tt; trapped = λ cause level. refl }
+each-answer : OfNoAccess NoEntry
+each-answer = record { done = tt; value = λ old. tt; flag = λ yes. tt; refused = λ number. tt; trapped = λ cause level. refl }
 
 pub no-access : (h : Hart) (map : Map) (step : Step) → isAccess step ≡ false → NoEntry (stepped h map step .answer)
 unfolding stepRule
 no-access h map step e =
     subst NoEntry (sym (ap (λ (x : Stepped). x .answer) (step-parts h map step)))
-    (other-answer NoEntry unowned (h .state) (canHold (h .state)) step e)
+    (other-answer NoEntry each-answer (h .state) (canHold (h .state)) step e)

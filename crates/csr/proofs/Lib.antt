@@ -2,5 +2,5 @@
 pub mod StatusKept
 pub mod TrapKept
 pub mod RegistersKept
-mod PresentLaws
+mod TableLaws
 mod OperateLaws

@@ -3,6 +3,7 @@ mod operation;
 mod permit;
 mod show;
 mod store;
+mod table;
 
 pub use operation::operate;
 pub use operation::value_written;

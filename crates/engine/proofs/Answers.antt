@@ -12,10 +12,10 @@ use Rattle.steps.specs.Decode.{isAccess}
 use Rattle.protection.specs.Read.{isPmp}
 use Rattle.state.specs.declared.State.{State}
 use Rattle.csr.specs.Permit.{illegal}
-use Rattle.trap.proofs.Answers.{Unowned, raised-answer, event-answer}
+use Rattle.trap.proofs.Answers.{OfNoAccess, raised-answer, event-answer}
 use Rattle.engine.specs.Effects.{Effect, refused, csrStep, effect, isReset, ruledBy}
 
-module _ (P : Answer → Type 0) (each : Unowned P) (s : State) where
+module _ (P : Answer → Type 0) (each : OfNoAccess P) (s : State) where
   abbrev Of : Effect → Type 0
   Of e = P (e .answer)
 

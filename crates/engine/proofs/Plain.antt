@@ -14,7 +14,7 @@ use Rattle.steps.specs.Number.{answerInterrupt}
 use Rattle.registers.specs.Effective.{effectiveMode}
 use Rattle.state.specs.declared.State.{State}
 use Rattle.trap.specs.Enter.{raisedBy}
-use Rattle.trap.proofs.Answers.{Unowned}
+use Rattle.trap.proofs.Answers.{OfNoAccess}
 use Rattle.engine.specs.Effects.{Effect, refused, accessDecided, accessAt, accessStep, ruledBy}
 use Rattle.engine.proofs.Answers.{other-answer}
 
@@ -24,8 +24,8 @@ NoInterrupt a = answerInterrupt a ≡ 0
 abbrev pub Plain : Effect → Type 0
 Plain e = NoInterrupt (e .answer)
 
-unowned-plain : Unowned NoInterrupt
-unowned-plain = record { done = refl; value = λ old. refl; flag = λ yes. refl; refused = λ number. refl; trapped = λ cause level. refl }
+no-access-plain : OfNoAccess NoInterrupt
+no-access-plain = record { done = refl; value = λ old. refl; flag = λ yes. refl; refused = λ number. refl; trapped = λ cause level. refl }
 
 module _ (s : State) where
   decided-plain : (address : ℕ) (d : Decision) → Plain (accessDecided s address d)
@@ -45,8 +45,8 @@ module _ (s : State) where
   access-plain Store address size = at-plain Store address size
 
   pub ruled-plain : (held : Bool) (step : Step) → Plain (ruledBy held s step)
-  ruled-plain held Reset = other-answer NoInterrupt unowned-plain s held Reset refl
-  ruled-plain held (Csr op number operand) = other-answer NoInterrupt unowned-plain s held (Csr op number operand) refl
-  ruled-plain held (EventStep event) = other-answer NoInterrupt unowned-plain s held (EventStep event) refl
+  ruled-plain held Reset = other-answer NoInterrupt no-access-plain s held Reset refl
+  ruled-plain held (Csr op number operand) = other-answer NoInterrupt no-access-plain s held (Csr op number operand) refl
+  ruled-plain held (EventStep event) = other-answer NoInterrupt no-access-plain s held (EventStep event) refl
   ruled-plain held (AccessStep access address size) =
       by-test Plain held (accessStep s access address size) (refused s 3) (λ t. access-plain access address size) (λ t. refl)

@@ -1,6 +1,6 @@
 // Steps a hart through a mix of steps, over and over, for the benchmark: `step_speed MIX COUNT`. Mix 1 has CSR steps, 2 traps and returns,
-// 3 accesses, 4 writes to protection registers; any other number stands for all four, one after the other. A line for each mix gives a checksum
-// of the answers and of the hart and map left.
+// 3 accesses, 4 writes to protection registers, 5 CSR steps on present and absent numbers; any other number stands for all five, one after the
+// other. A line for each mix gives a checksum of the answers and of the hart and map left.
 mod checksum;
 mod mixes;
 
@@ -35,7 +35,7 @@ fn step_through(mix: u64, count: u64) -> u64 {
     let mut sum: u64 = 0;
     let mut done: u64 = 0;
     while done < count {
-        let next = hart.step(map, step_of(mix, done % 16));
+        let next = hart.step(map, step_of(mix, done));
         let answer = next.answer;
         sum = answered(sum, answer);
         hart = next.hart;
@@ -85,12 +85,13 @@ fn argument(place: usize) -> u64 {
 fn main() {
     let mix = argument(1);
     let count = argument(2);
-    if (1 <= mix) & (mix <= 4) {
+    if (1 <= mix) & (mix <= 5) {
         report(mix, count);
     } else {
         report(1, count);
         report(2, count);
         report(3, count);
         report(4, count);
+        report(5, count);
     }
 }

@@ -1,4 +1,4 @@
-// The mixes: sixteen steps each, by their place, and the steps that come before every mix.
+// The mixes: sixteen steps over and over, in the fifth 8,192; and the steps that come before every mix.
 use pmp::Access;
 use steps::Event;
 use steps::Operation;
@@ -134,12 +134,58 @@ fn protection_step(place: u64) -> Step {
     }
 }
 
+// The numbers with a register, in rising order.
+fn present_number(place: u64) -> u64 {
+    match place {
+        0 => 0x100,
+        1..=3 => 0x103 + place,
+        4 => 0x10A,
+        5..=9 => 0x13B + place,
+        10 => 0x180,
+        11..=17 => 0x2F5 + place,
+        18 => 0x30A,
+        19 => 0x320,
+        20..=53 => 0x30F + place,
+        54 => 0x3A0,
+        55 => 0x3A2,
+        56..=71 => 0x378 + place,
+        72 => 0xB00,
+        73..=102 => 0xAB9 + place,
+        103 => 0xC00,
+        104..=133 => 0xB9A + place,
+        134..=138 => 0xE8B + place,
+        _ => 0,
+    }
+}
+
+// A number with a register and any number, in turn: over 8,192 steps every number there is comes once as the second.
+fn any_number(place: u64) -> u64 {
+    let turn = place / 2 % 4096;
+    let scattered = turn * (turn + 1) / 2 % 4096;
+    if place % 2 == 0 {
+        present_number(scattered % 139)
+    } else {
+        scattered
+    }
+}
+
+// Numbers with and without a register. With operand 0 no protection register changes.
+fn any_number_step(place: u64) -> Step {
+    let number = any_number(place);
+    match place / 2 % 4096 % 3 {
+        0 => read(number),
+        1 => set(number, 0),
+        _ => clear(number, 0),
+    }
+}
+
 // The step at a place of a mix.
 pub(crate) fn step_of(mix: u64, place: u64) -> Step {
     match mix {
-        1 => csr_step(place),
-        2 => Step::Event(trap_event(place)),
-        3 => access_step(place),
-        _ => protection_step(place),
+        1 => csr_step(place % 16),
+        2 => Step::Event(trap_event(place % 16)),
+        3 => access_step(place % 16),
+        4 => protection_step(place % 16),
+        _ => any_number_step(place),
     }
 }

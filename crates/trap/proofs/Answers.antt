@@ -25,14 +25,14 @@ use Rattle.trap.specs.Time.{advanced, elapsed}
 use Rattle.trap.specs.Events.{eventStep}
 
 -- what holds of every answer of a step that is no access
-pub record Unowned (P : Answer → Type 0) : Type 0 where
+pub record OfNoAccess (P : Answer → Type 0) : Type 0 where
   pub done : P Done
   pub value : (old : ℕ) → P (DoneValue old)
   pub flag : (yes : Bool) → P (DoneFlag yes)
   pub refused : (number : ℕ) → P (Refused number)
   pub trapped : (cause : ℕ) (level : Level) → P (Trapped (Exception cause) level none)
 
-module _ (P : Answer → Type 0) (each : Unowned P) (r : Registers) where
+module _ (P : Answer → Type 0) (each : OfNoAccess P) (r : Registers) where
   abbrev Of : Outcome → Type 0
   Of o = P (o .answer)
 

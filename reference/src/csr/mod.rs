@@ -5,7 +5,7 @@ mod locks;
 mod read;
 mod write;
 
-pub use access::present;
+pub use access::{Judge, Rule, lowest_mode, present, read_only};
 
 use crate::answer::{Answer, Refusal};
 use crate::hart::Hart;
@@ -69,11 +69,11 @@ impl Operation {
 
 impl Hart {
     /// Reads a CSR without a write attempt.
-    pub(crate) fn csr_read_step(&mut self, number: u64) -> Answer {
+    pub(crate) fn csr_read_step<J: Judge>(&mut self, number: u64) -> Answer {
         if number > LAST_NUMBER {
             return Answer::Refused(Refusal::Argument);
         }
-        if !self.can_read(number) {
+        if !J::is_legal(self, number, false) {
             return self.illegal_instruction();
         }
         let value = self.read_csr(number);
@@ -83,7 +83,7 @@ impl Hart {
 
     /// Writes, sets or clears a CSR. The map is compiled anew exactly if a
     /// protection register differs afterwards.
-    pub(crate) fn csr_write_step(
+    pub(crate) fn csr_write_step<J: Judge>(
         &mut self,
         map: &mut Map,
         number: u64,
@@ -93,7 +93,7 @@ impl Hart {
         if number > LAST_NUMBER {
             return Answer::Refused(Refusal::Argument);
         }
-        if !self.can_write(number) {
+        if !J::is_legal(self, number, true) {
             return self.illegal_instruction();
         }
         let old = self.read_csr(number);

@@ -47,12 +47,28 @@ impl Lent {
 
     /// The product's step, which must find all it is lent in order.
     pub fn product_step(&self, words: [u64; STEP_WORDS]) -> Result<Outcome, String> {
-        show(|| format!("{}step {words:x?}", self.text()));
+        self.product_call("step", words, capi::step)
+    }
+
+    /// The same by a run of this step alone.
+    pub fn product_run(&self, words: [u64; STEP_WORDS]) -> Result<Outcome, String> {
+        self.product_call("run", words, |hart, map, words, answer| {
+            capi::run(hart, map, &words, answer)
+        })
+    }
+
+    fn product_call(
+        &self,
+        name: &str,
+        words: [u64; STEP_WORDS],
+        call: impl Fn(&mut [u64], &mut [u64], [u64; STEP_WORDS], &mut [u64]) -> u64,
+    ) -> Result<Outcome, String> {
+        show(|| format!("{}{name} {words:x?}", self.text()));
         let mut after = self.clone();
         let mut answer = UNWRITTEN;
-        match capi::step(&mut after.hart, &mut after.map, words, &mut answer) {
+        match call(&mut after.hart, &mut after.map, words, &mut answer) {
             1 => Ok((after, answer)),
-            given => Err(format!("the step's call gives {given}")),
+            given => Err(format!("the {name}'s call gives {given}")),
         }
     }
 
@@ -108,15 +124,35 @@ pub fn compare_step(lent: &Lent, words: [u64; STEP_WORDS]) -> Result<(), String>
 
 /// The same, to go on from: gives what the product leaves.
 pub fn step_both(lent: &Lent, words: [u64; STEP_WORDS]) -> Result<Lent, String> {
+    let expected = lent.reference_step(words);
+    agreed(lent, words, &expected, lent.product_step(words)).map(|(left, _)| left)
+}
+
+/// One step on both sides, by the product as a step and as a run: inside, these may
+/// go different ways. Gives the answer.
+pub fn compare_ways(lent: &Lent, words: [u64; STEP_WORDS]) -> Result<[u64; ANSWER_WORDS], String> {
+    let expected = lent.reference_step(words);
+    agreed(lent, words, &expected, lent.product_step(words))?;
+    agreed(lent, words, &expected, lent.product_run(words))
+        .map(|(_, answer)| answer)
+        .map_err(|text| format!("{text}by a run of this step\n"))
+}
+
+/// What the product gives, unless it differs from what is expected.
+fn agreed(
+    lent: &Lent,
+    words: [u64; STEP_WORDS],
+    expected: &Outcome,
+    found: Result<Outcome, String>,
+) -> Result<Outcome, String> {
     let told = |text| {
         let [number, a, b] = words;
         format!("{}step {number}, a {a:016x}, b {b:016x}\n{text}", lent.text())
     };
-    let expected = lent.reference_step(words);
-    let found = lent.product_step(words).map_err(told)?;
+    let found = found.map_err(told)?;
     let made_anew = lent.makes_map(&expected.0, words[0]);
-    match result_difference(&expected, &found, made_anew) {
+    match result_difference(expected, &found, made_anew) {
         Some(text) => Err(told(text)),
-        None => Ok(found.0),
+        None => Ok(found),
     }
 }

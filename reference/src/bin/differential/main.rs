@@ -3,21 +3,25 @@
 //!
 //! `differential [small] [loud] [only=N] [seed=N] [walks=N] [steps=N] [runs=N]
 //! [queries=N] [texts=N] [calls=N]`: numbers are decimal; one walk is every CSR number in
-//! every mode by every operation, every choice that step 7 can have to make,
-//! every shape of a NAPOT register, every setting listed for the boundaries of a
-//! map, every map of a few ranges over a few bytes, every bit of every word of a
-//! state and every configuration byte, every place of a text with telling bytes, and
-//! every length of a short run and its answers. Should the product end the program,
-//! `loud` tells the case, and `only` what it was lent.
+//! every mode by every operation with all else that its access hangs on, every choice
+//! that step 7 can have to make, every shape of a NAPOT register, every setting listed
+//! for the boundaries of a map, every map of a few ranges over a few bytes, every bit of
+//! every word of a state and every configuration byte, every place of a text with
+//! telling bytes, and every length of a short run and its answers. Should the product
+//! end the program, `loud` tells the case, and `only` what it was lent.
 //!
-//! The last line also tells how many accepted steps 7 were compared, and in how
-//! many of them the single order of document 01 would have chosen another
-//! interrupt than request [2] does. In each walk that must be exactly 3,402, or
-//! the comparison fails. The same goes for the NAPOT entries whose range would be
-//! another if trailing zeros were counted: 3,074 in each walk. And for the maps
-//! with 33 ranges that the listed settings make: 406 in each walk. Of queries, and of
-//! accesses by steps, it tells how many were of each class; the comparison fails
-//! where a class has too few of them.
+//! The last line tells how many CSR steps of the walks were done, refused, or illegal
+//! for each reason of document 01. In each walk these must be exactly as many as
+//! counted by hand in `registers.rs`, and no access that the rule can tell from others
+//! may be missing, or the comparison fails.
+//!
+//! It also tells how many accepted steps 7 were compared, and in how many of them the
+//! single order of document 01 would have chosen another interrupt than request [2]
+//! does. In each walk that must be exactly 3,402, or the comparison fails. The same
+//! goes for the NAPOT entries whose range would be another if trailing zeros were
+//! counted: 3,074 in each walk. And for the maps with 33 ranges that the listed
+//! settings make: 406 in each walk. Of queries, and of accesses by steps, it tells how
+//! many were of each class; the comparison fails where a class has too few of them.
 
 mod accesses;
 mod boundaries;
@@ -34,6 +38,8 @@ mod orders;
 mod queries;
 mod reading;
 mod reads;
+mod reasons;
+mod registers;
 mod report;
 mod runs;
 mod sizes;
@@ -72,7 +78,7 @@ fn main() -> ExitCode {
 }
 
 fn compare_all(sizes: &Sizes) -> Result<String, Difference> {
-    let walked = steps::walk(sizes)?;
+    let reasons = registers::walk(sizes)?;
     let walk_orders = interrupts::walk(sizes)?;
     let trailing = napot::walk(sizes)?;
     let judged = boundaries::walk(sizes)?;
@@ -90,7 +96,7 @@ fn compare_all(sizes: &Sizes) -> Result<String, Difference> {
         return Ok(format!("case {case} alone of each stage"));
     }
     Ok(format!(
-        "{walked} steps of CSR walks, interrupt walks of {walk_orders}, NAPOT walks of {trailing}, \
+        "CSR walks of {reasons}, interrupt walks of {walk_orders}, NAPOT walks of {trailing}, \
          boundary walks of {judged}, walks over narrow maps, each of {narrow}, \
          {held} states with one word changed, {spelled} texts with one byte changed, \
          {lengths} runs of any lengths, {} random steps with {step_telling}, \

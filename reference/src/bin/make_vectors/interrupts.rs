@@ -1,16 +1,12 @@
 //! Interrupts: what is takeable, and which of several is taken.
 
+use reference::csr::number::MSTATUS;
+use reference::status::{MPIE, SIE};
 use reference::{MACHINE, SUPERVISOR, USER};
 
-use crate::traps::{MSTATUS, WFI, WRITE, enter};
+use crate::steps::{ECALL, LINES, READ, TAKE, WFI, WRITE};
+use crate::traps::enter;
 use crate::vector::Vector;
-
-const READ: u64 = 4;
-const LINES: u64 = 6;
-const TAKE: u64 = 7;
-const ECALL: u64 = 11;
-const SIE: u64 = 1 << 1;
-const MPIE: u64 = 1 << 7;
 
 pub fn vectors() -> Vec<Vector> {
     vec![interrupts(), mixed_delegation()]

@@ -6,6 +6,7 @@ mod broken;
 mod interrupts;
 mod protection;
 mod registers;
+mod steps;
 mod traps;
 mod vector;
 

@@ -1,22 +1,12 @@
 //! Protection registers, their locks, accesses, and the map that is left.
 
+use reference::csr::number::{MSTATUS, PMPADDR0, PMPCFG0, PMPCFG2};
 use reference::random::Random;
 use reference::{Hart, MACHINE, generate};
 
+use crate::steps::{ADVANCE, CLEAR, FETCH, LOAD, RAISE, SET, STORE, WRITE};
 use crate::vector::Vector;
 
-const WRITE: u64 = 1;
-const SET: u64 = 2;
-const CLEAR: u64 = 3;
-const PMPCFG0: u64 = 0x3A0;
-const PMPCFG2: u64 = 0x3A2;
-const PMPADDR0: u64 = 0x3B0;
-const MSTATUS: u64 = 0x300;
-const RAISE: u64 = 5;
-const ADVANCE: u64 = 13;
-const FETCH: u64 = 14;
-const LOAD: u64 = 15;
-const STORE: u64 = 16;
 /// One NA4 entry after the other, readable.
 const EIGHT_NA4: u64 = 0x1111_1111_1111_1111;
 
@@ -76,7 +66,7 @@ fn sixteen_entries() -> Vector {
     for address in 0..136 {
         for size in [1, 2, 4, 8] {
             // A fault stacks MPP = M, so U is put back before each load.
-            steps.extend([[WRITE, 0x300, 1 << 17], [LOAD, address, size]]);
+            steps.extend([[WRITE, MSTATUS, 1 << 17], [LOAD, address, size]]);
         }
     }
     Vector::of_steps("setting-w9", None, &steps)
@@ -90,7 +80,7 @@ fn extremes() -> Vector {
             steps.push([WRITE, PMPADDR0, (1 << bits) - 1]);
             steps.push([WRITE, PMPCFG0, configuration]);
             for address in [0, (1 << 55) - 4, (1 << 56) - 8, (1 << 56) - 4, u64::MAX - 3] {
-                steps.push([WRITE, 0x300, 1 << 17]);
+                steps.push([WRITE, MSTATUS, 1 << 17]);
                 steps.extend([[LOAD, address, 8], [STORE, address, 4], [STORE, address, 3]]);
             }
         }
@@ -136,8 +126,8 @@ fn any_accesses(random: &mut Random) -> Vector {
         let kind = LOAD + random.below(2);
         let address = generate::address(random, &start, &map);
         let bits = random.pick(&[0, 1 << 17, 1 << 17 | 1 << 11]);
-        steps.extend([[WRITE, 0x300, bits], [kind, address, generate::size(random)]]);
-        steps.extend([[13, address & !3, 0], [14, 0, 0]]);
+        steps.extend([[WRITE, MSTATUS, bits], [kind, address, generate::size(random)]]);
+        steps.extend([[ADVANCE, address & !3, 0], [FETCH, 0, 0]]);
     }
     Vector::of_steps("any-accesses", Some(&start), &steps)
 }

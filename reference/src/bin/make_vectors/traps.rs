@@ -1,16 +1,13 @@
 //! Exceptions, delegation, returns and time.
 
+use reference::csr::number::MSTATUS;
 use reference::random::Random;
 use reference::{Hart, MACHINE, Map, SUPERVISOR, Step, USER, generate, step};
 
+use crate::steps::{
+    ADVANCE, CLEAR, EBREAK, ECALL, ELAPSED, FETCH, MRET, RAISE, READ, SET, SRET, STORE, WFI, WRITE,
+};
 use crate::vector::Vector;
-
-pub const WRITE: u64 = 1;
-const SET: u64 = 2;
-const MRET: u64 = 8;
-const SRET: u64 = 9;
-pub const WFI: u64 = 10;
-pub const MSTATUS: u64 = 0x300;
 
 pub fn vectors(seed: u64) -> Vec<Vector> {
     vec![exceptions(), environment_calls(), returns(), time(), any_steps(&mut Random::new(seed))]
@@ -18,7 +15,7 @@ pub fn vectors(seed: u64) -> Vec<Vector> {
 
 /// From M into another mode, or M again, at 0x4000.
 pub fn enter(mode: u64) -> [[u64; 3]; 4] {
-    [[3, MSTATUS, 3 << 11], [SET, MSTATUS, mode << 11], [WRITE, 0x341, 0x4000], [MRET, 0, 0]]
+    [[CLEAR, MSTATUS, 3 << 11], [SET, MSTATUS, mode << 11], [WRITE, 0x341, 0x4000], [MRET, 0, 0]]
 }
 
 /// Every cause from every mode, delegated or not. M is always reached again by
@@ -30,8 +27,9 @@ fn exceptions() -> Vector {
             for cause in 0..10 {
                 steps.push([WRITE, 0x302, medeleg]);
                 steps.extend(enter(mode));
-                steps.push([5, cause, 0xABCD_0000 + cause]);
-                steps.extend([[12, 0, 0], [13, 0x1_0002, 0], [4, 0x7C0, 0], [11, 0, 0]]);
+                steps.push([RAISE, cause, 0xABCD_0000 + cause]);
+                steps.extend([[EBREAK, 0, 0], [ADVANCE, 0x1_0002, 0]]);
+                steps.extend([[READ, 0x7C0, 0], [ECALL, 0, 0]]);
             }
         }
     }
@@ -46,7 +44,8 @@ fn environment_calls() -> Vector {
         for mode in [USER, SUPERVISOR, MACHINE] {
             steps.push([WRITE, 0x302, medeleg]);
             steps.extend(enter(mode));
-            steps.extend([[11, 0, 0], [11, 0, 0], [12, 0, 0], [4, 0x342, 0], [4, 0x142, 0]]);
+            steps.extend([[ECALL, 0, 0], [ECALL, 0, 0], [EBREAK, 0, 0]]);
+            steps.extend([[READ, 0x342, 0], [READ, 0x142, 0]]);
         }
     }
     Vector::of_steps("environment-calls", None, &steps)
@@ -60,7 +59,8 @@ fn returns() -> Vector {
             for back in [MRET, SRET, WFI] {
                 steps.push([WRITE, MSTATUS, bits | mode << 11]);
                 steps.extend([[WRITE, 0x341, 0x5000], [WRITE, 0x141, 0x6000], [MRET, 0, 0]]);
-                steps.extend([[back, 0, 0], [16, 0x100, 8], [14, 0, 0], [11, 0, 0], [11, 0, 0]]);
+                steps.extend([[back, 0, 0], [STORE, 0x100, 8], [FETCH, 0, 0]]);
+                steps.extend([[ECALL, 0, 0], [ECALL, 0, 0]]);
             }
         }
     }
@@ -70,20 +70,20 @@ fn returns() -> Vector {
 fn time() -> Vector {
     let start = Hart { mcycle: u64::MAX, minstret: u64::MAX - 1, ..Hart::reset() };
     let steps = [
-        [17, 1, 0],
-        [17, 70_000, 3],
+        [ELAPSED, 1, 0],
+        [ELAPSED, 70_000, 3],
         [WRITE, 0x320, 1],
-        [17, 5, 5],
+        [ELAPSED, 5, 5],
         [WRITE, 0x320, 4],
-        [17, 5, 5],
+        [ELAPSED, 5, 5],
         [WRITE, 0x320, u64::MAX],
-        [17, 5, 5],
-        [4, 0xC00, 0],
-        [4, 0xC02, 0],
+        [ELAPSED, 5, 5],
+        [READ, 0xC00, 0],
+        [READ, 0xC02, 0],
         [WRITE, 0xB00, 9],
         [SET, 0xB02, 1 << 63],
-        [4, 0xB00, 0],
-        [4, 0xB02, 0],
+        [READ, 0xB00, 0],
+        [READ, 0xB02, 0],
     ];
     Vector::of_steps("time", Some(&start), &steps)
 }
