@@ -39,24 +39,25 @@ module _ (mode lowest : ℕ) (small : lowest < 4) (attempt rest : Bool) where
       rw (ne-eqb (1 + 2 * lowest + 0) 0 (omega arith), mid, high) (swap (attempt && false) (ltb mode lowest) rest)
 
 module _ (r : Registers) (operation : Operation) (n : ℕ) where
-  -- by the address alone, whatever the mode: no register, or a write attempt to a read-only one
-  abbrev barred : Bool
-  barred = eqb (accessibility n) 0 || (attemptsWrite operation && eqb (accessibility n / 8) 1)
+  -- illegal in every mode: no register, or a write attempt to a read-only one
+  abbrev byAddress : Bool
+  byAddress = eqb (accessibility n) 0 || (attemptsWrite operation && eqb (accessibility n / 8) 1)
 
-  abbrev closed : Bool
-  closed = ltb (r .mode) (accessibility n / 2 % 4) || (translationTrapped r n || counterHidden r n)
+  -- illegal in this state: below the lowest mode, satp under TVM, a counter that is closed
+  abbrev byState : Bool
+  byState = ltb (r .mode) (accessibility n / 2 % 4) || (translationTrapped r n || counterHidden r n)
 
   -- at every address and in every state
-  pub illegal-by-number : (barred || closed) ≡ illegal r operation n
+  pub illegal-by-number : (byAddress || byState) ≡ illegal r operation n
   unfolding illegal
   illegal-by-number =
       by-parts (r .mode) (lowestMode n) (omega arith) (attemptsWrite operation) (translationTrapped r n || counterHidden r n) (present n) (readOnly n)
 
-  -- to M nothing is closed
-  pub illegal-to-machine : r .mode ≡ 3 → barred ≡ illegal r operation n
+  -- the state closes nothing to M
+  pub illegal-to-machine : r .mode ≡ 3 → byAddress ≡ illegal r operation n
   illegal-to-machine e =
-      let none : closed ≡ false = rw (e, le-ltb 3 (accessibility n / 2 % 4) (omega arith), and-false (eqb n 0x180), and-false (between 0xC00 0xC1F n)) in
-      sym (or-false barred) ∙ (ap (λ (b : Bool). barred || b) (sym none) ∙ illegal-by-number)
+      let none : byState ≡ false = rw (e, le-ltb 3 (accessibility n / 2 % 4) (omega arith), and-false (eqb n 0x180), and-false (between 0xC00 0xC1F n)) in
+      sym (or-false byAddress) ∙ (ap (λ (b : Bool). byAddress || b) (sym none) ∙ illegal-by-number)
 
 -- ---- rows
 

@@ -40,12 +40,12 @@ pub fn is_illegal(r: Registers, operation: Operation, number: u64) -> bool
 {
     let mode = r.mode;
     let access = accessibility(number);
-    let barred = (access == 0) | (attempts_write(operation) & (access / 8 == 1));
+    let illegal_by_address = (access == 0) | (attempts_write(operation) & (access / 8 == 1));
     if mode == 3 {
-        return barred;
+        return illegal_by_address;
     }
     let below = mode < (access / 2 % 4) as u64;
     let trapped = (number == 0x180) & ((mode == 1) & ((r.mstatus >> 20) % 2 == 1));
     let hidden = is_counter_hidden(r, number);
-    barred | (below | (trapped | hidden))
+    illegal_by_address | (below | (trapped | hidden))
 }
