@@ -7,7 +7,7 @@ use Rattle.registers.specs.declared.Registers.{Registers}
 use Rattle.registers.specs.Masks.{sstatusMask, uxl}
 use Rattle.registers.specs.Status.{pending}
 
--- sstatus shows mstatus within 0x80122 plus UXL
+-- sstatus shows mstatus within 0xC0122 plus UXL
 abbrev pub sstatus : ℕ → ℕ
 sstatus mstatus = bitOr (bitAnd mstatus sstatusMask) uxl
 

@@ -20,7 +20,7 @@ unfoldable pub statusWritten : ℕ → ℕ → ℕ
 statusWritten old value =
     cond (eqb (bitAnd value (ppMask Machine)) 0x1000) (replaced (ppMask Machine) old (keptStatus value)) (keptStatus value)
 
--- sstatus writes within 0x80122
+-- sstatus writes within 0xC0122
 abbrev pub sstatusWritten : ℕ → ℕ → ℕ
 sstatusWritten mstatus value = replaced sstatusMask value mstatus
 
