@@ -21,13 +21,13 @@ use Rattle.hart.specs.Runs.{leftBy, answersBy}
 use Rattle.hart.specs.Queries.{queryAnswer}
 use Rattle.hart.specs.Saved.{savedAnswer, savedBuffer, restored}
 
--- the hart of 41 words in the order of the saved text
+-- the hart of 42 words in the order of the saved text
 abbrev pub hartOf : List ℕ → Hart
 hartOf words = hartWith (stateOf words)
 
--- a hart's slice has 41 words and a map's 100
+-- a hart's slice has 42 words and a map's 100
 abbrev pub fits : List ℕ → List ℕ → Bool
-fits hart map = eqb (length hart) 41 && eqb (length map) 100
+fits hart map = eqb (length hart) 42 && eqb (length map) 100
 
 -- ---- steps
 
@@ -94,10 +94,10 @@ misfit = 2 ^ 64 - 1
 
 -- 0, or refusal 3, then 6
 unfoldable pub saveResult : List ℕ → List ℕ → ℕ
-saveResult hart text = cond (eqb (length hart) 41) (refusalOf (savedAnswer (hartOf hart) text)) misfit
+saveResult hart text = cond (eqb (length hart) 42) (refusalOf (savedAnswer (hartOf hart) text)) misfit
 
 unfoldable pub savedText : List ℕ → List ℕ → List ℕ
-savedText hart text = cond (eqb (length hart) 41) (savedBuffer (hartOf hart) text) text
+savedText hart text = cond (eqb (length hart) 42) (savedBuffer (hartOf hart) text) text
 
 -- what reading a text back leaves
 abbrev pub readBack : List ℕ → List ℕ → List ℕ → Stepped

@@ -1,4 +1,4 @@
-// The interface for C: harts, maps, steps and answers as 41, 100, three and four words. A call whose slices have another length changes nothing.
+// The interface for C: harts, maps, steps and answers as 42, 100, three and four words. A call whose slices have another length changes nothing.
 mod maps;
 mod query;
 
@@ -12,9 +12,9 @@ ghost use Rattle.pmp.specs.Number.{isMode};
 ghost use Rattle.capi.specs.Calls.{stepCall, runCall, queryResult, queryAnswered, saveResult, savedText, restoreResult, restoredHart, restoredMap};
 
 fn fit(hart: usize, map: usize) -> bool
-    ensures { λ r. ⌜ r ≡ (eqb hart 41 && eqb map 100) ⌝ }
+    ensures { λ r. ⌜ r ≡ (eqb hart 42 && eqb map 100) ⌝ }
 {
-    (hart == 41) & (map == 100)
+    (hart == 42) & (map == 100)
 }
 
 fn queryable(mode: u64, kind: u64) -> bool
@@ -97,7 +97,7 @@ pub extern "C" fn tegrwyllt_save(hart: &[u64], text: &mut [u8]) -> u64
     ensures { λ r. ⌜ r ≡ saveResult (now (hart .entry)) (now (text .entry)) ⌝ }
     ensures { λ _. ⌜ now (text .exit) ≡ savedText (now (hart .entry)) (now (text .entry)) ⌝ }
 {
-    if hart.len() != 41 {
+    if hart.len() != 42 {
         return MISFIT;
     }
     let given = Hart {

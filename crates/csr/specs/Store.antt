@@ -62,7 +62,7 @@ tvalAt level r value = withLevel level r (withTval (levelOf level r) value)
 
 -- ---- a write to any register
 
--- by its number; a write to 301, 323 to 33F, B03 to B1F, 30A, 10A or 180 changes nothing, nor does one to a number not present
+-- by its number; a write to 301, 323 to 33F, B03 to B1F, 30A or 10A changes nothing, nor does one to the number of no register here
 unfoldable pub registersWritten : Registers → ℕ → ℕ → Registers
 registersWritten r n value =
     cond (eqb n 0x100) (withStatus r (sstatusWritten (r .mstatus) value))

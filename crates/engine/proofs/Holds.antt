@@ -1,10 +1,10 @@
 -- Every step keeps a state that a hart can hold. Assumes nothing.
 use Prim.Native.Nat.{ℕ, _<_}
 use mathlib.Core.Path.{_≡_}
-use mathlib.Core.Bool.{true, cond, _||_}
+use mathlib.Core.Bool.{true, cond, _&&_, _||_}
 use mathlib.Core.List.{List}
 use native.Mathlib.Omega.{arith}
-use lib.Dec.{ltb}
+use lib.Dec.{eqb, ltb}
 use Rattle.bits.proofs.Conjunction.{both, by-test, choose}
 use Rattle.bits.proofs.FoldLaws.{fold-keeps}
 use Rattle.pmp.specs.declared.Access.{Access}
@@ -27,6 +27,11 @@ use Rattle.protection.specs.declared.Pmp.{Pmp}
 use Rattle.protection.specs.Hold.{pmpHoldable}
 use Rattle.protection.specs.Read.{isPmp, pmpRead}
 use Rattle.protection.proofs.WriteKept.{pmp-written-kept}
+use Rattle.paging.specs.declared.Reached.{Reached}
+use Rattle.paging.specs.Satp.{satpHoldable}
+use Rattle.paging.specs.Memory.{Memory}
+use Rattle.paging.specs.Access.{reached}
+use Rattle.paging.proofs.SatpLaws.{satp-kept}
 use Rattle.state.specs.declared.State.{State}
 use Rattle.state.specs.Hold.{canHold}
 use Rattle.state.proofs.Held.{hold, reset-holds}
@@ -40,9 +45,12 @@ use Rattle.trap.proofs.Holdable.{raised-holdable, illegal-instruction-holdable,
 use Rattle.engine.specs.Effects.{
   Effect,
   refused,
+  withRegisters,
   onRegisters,
   pmpOperated,
+  satpOperated,
   protectionStep,
+  satpStep,
   registerStep,
   csrStep,
   accessDecided,
@@ -67,18 +75,27 @@ pmp-operated-kept : (p : Pmp) → pmpHoldable p ≡ true → (op : Operation) (n
 pmp-operated-kept p h op number operand old =
     choose pmpHoldable (attemptsWrite op) _ _ (pmp-written-kept p number (operated op old operand) h) h
 
+satp-operated-kept : (satp : ℕ) → satpHoldable satp ≡ true → (op : Operation) (operand : ℕ) → satpHoldable (satpOperated satp op operand) ≡ true
+satp-operated-kept satp h op operand = choose satpHoldable (attemptsWrite op) _ _ (satp-kept satp (operated op satp operand) h) h
+
 module _ (s : State) (p : canHold s ≡ true) where
   pub registers-held : registersHoldable (s .registers) ≡ true
   unfolding canHold
-  registers-held = both (registersHoldable (s .registers)) (pmpHoldable (s .pmp)) p .0
+  registers-held = both (registersHoldable (s .registers)) (pmpHoldable (s .pmp) && satpHoldable (s .satp)) p .0
+
+  others-held : (pmpHoldable (s .pmp) && satpHoldable (s .satp)) ≡ true
+  unfolding canHold
+  others-held = both (registersHoldable (s .registers)) (pmpHoldable (s .pmp) && satpHoldable (s .satp)) p .1
 
   pub pmp-held : pmpHoldable (s .pmp) ≡ true
-  unfolding canHold
-  pmp-held = both (registersHoldable (s .registers)) (pmpHoldable (s .pmp)) p .1
+  pmp-held = both (pmpHoldable (s .pmp)) (satpHoldable (s .satp)) others-held .0
 
-  -- a step that leaves the protection registers alone
-  on-registers : (r : Registers) → registersHoldable r ≡ true → canHold (record { registers = r; pmp = s .pmp }) ≡ true
-  on-registers r q = hold (record { registers = r; pmp = s .pmp }) q pmp-held
+  pub satp-held : satpHoldable (s .satp) ≡ true
+  satp-held = both (pmpHoldable (s .pmp)) (satpHoldable (s .satp)) others-held .1
+
+  -- a step that leaves the protection registers and satp alone
+  on-registers : (r : Registers) → registersHoldable r ≡ true → canHold (withRegisters s r) ≡ true
+  on-registers r q = hold (withRegisters s r) q pmp-held satp-held
 
   next-held : (r : Registers) → registersHoldable r ≡ true → registersHoldable (withPc r (nextPc (s .registers))) ≡ true
   next-held r q = pc-holdable r q (nextPc (s .registers)) (next-aligned (s .registers .pc) (held (s .registers) registers-held .pc))
@@ -87,21 +104,26 @@ module _ (s : State) (p : canHold s ≡ true) where
   unfolding csrStep
   csr-holds op number operand =
       let protect = protectionStep s op number operand in
+      let translation = satpStep s op operand in
       let other = registerStep s op number operand in
+      let apart = cond (eqb number 0x180) translation other in
       let trap = onRegisters s (illegalInstruction (s .registers)) in
-      by-test Holds (ltb 4095 number) (refused s 2) (cond (illegal (s .registers) op number) trap (cond (isPmp number) protect other)) (λ t. p)
+      by-test Holds (ltb 4095 number) (refused s 2) (cond (illegal (s .registers) op number) trap (cond (isPmp number) protect apart)) (λ t. p)
       (λ t.
-      by-test Holds (illegal (s .registers) op number) trap (cond (isPmp number) protect other)
+      by-test Holds (illegal (s .registers) op number) trap (cond (isPmp number) protect apart)
       (λ u. on-registers _ (illegal-instruction-holdable (s .registers) registers-held))
       (λ u.
-      by-test Holds (isPmp number) protect other
+      by-test Holds (isPmp number) protect apart
       (λ v.
       hold (protect .state) (next-held (s .registers) registers-held)
-      (pmp-operated-kept (s .pmp) pmp-held op number operand (pmpRead (s .pmp) number)))
+      (pmp-operated-kept (s .pmp) pmp-held op number operand (pmpRead (s .pmp) number)) satp-held)
       (λ v.
+      by-test Holds (eqb number 0x180) translation other
+      (λ z. hold (translation .state) (next-held (s .registers) registers-held) pmp-held (satp-operated-kept (s .satp) satp-held op operand))
+      (λ z.
       on-registers _
       (next-held (registersOperated (s .registers) op number operand (registerRead (s .registers) number))
-      (registers-operated-kept (s .registers) registers-held op number operand (registerRead (s .registers) number))))))
+      (registers-operated-kept (s .registers) registers-held op number operand (registerRead (s .registers) number)))))))
 
   decided-holds : (access : Access) (address : ℕ) (d : Decision) → GrantOrFault access d → Holds (accessDecided s address d)
   decided-holds access address _ (grants entry h) = p

@@ -4,7 +4,7 @@ use mathlib.Core.Path.{_≡_, refl, sym, ap, subst, _∙_}
 use mathlib.Core.List.{List, _++_}
 use native.Mathlib.Omega.{arith}
 use borrow.Author.Tests.{eq-eqb, ne-eqb}
-use lib.ListN.{length, getD, set, drop}
+use lib.ListN.{length, getD, set, drop, length-set}
 use lib.Seq.{sets, length-sets, sets-eq, set-append-left}
 use Rattle.bits.specs.Lists.{elements}
 use Rattle.bits.proofs.ListLaws.{elements-are}
@@ -69,6 +69,11 @@ pmp-spelt p w t =
       satp = getD (elements 42 0 w) 41 0;
     }
 
+satp-spelt : (satp : ℕ) (w : List ℕ)
+    → stateOf (set (elements 42 0 w) 41 satp) ≡ record { registers = registersOf (elements 42 0 w); pmp = pmpOf (elements 42 0 w); satp = satp }
+unfolding elements
+satp-spelt satp w = refl
+
 front-spelt : (w : List ℕ) → elements 42 0 w ≡ registerWords (registersOf (elements 42 0 w)) ++ drop 23 (elements 42 0 w)
 unfolding elements
 front-spelt w = refl
@@ -91,18 +96,28 @@ module _ (w : List ℕ) (fit : length w ≡ 42) where
       ap stateOf (pmp-put w fit p)
       ∙ subst (λ (v : List ℕ). stateOf (sets v 23 (pmpWords p)) ≡ record { registers = registersOf v; pmp = p; satp = getD v 41 0 }) (sym (spelt w fit)) (pmp-spelt p w t)
 
+  -- the state of words whose satp was written
+  pub satp-stored : (satp : ℕ) → stateOf (storedSatp satp w) ≡ record { registers = registersOf w; pmp = pmpOf w; satp = satp }
+  satp-stored satp =
+      ap stateOf (satp-put w fit satp)
+      ∙ subst (λ (v : List ℕ). stateOf (set v 41 satp) ≡ record { registers = registersOf v; pmp = pmpOf v; satp = satp }) (sym (spelt w fit)) (satp-spelt satp w)
+
   pub registers-length : (r : Registers) → length (storedRegisters r w) ≡ 42
   registers-length r = ap length (registers-put w fit r) ∙ length-sets w 0 (registerWords r) ∙ fit
 
   pub pmp-length : (p : Pmp) → length (storedPmp p w) ≡ 42
   pmp-length p = ap length (pmp-put w fit p) ∙ length-sets w 23 (pmpWords p) ∙ fit
 
+  pub satp-length : (satp : ℕ) → length (storedSatp satp w) ≡ 42
+  satp-length satp = ap length (satp-put w fit satp) ∙ length-set w 41 satp ∙ fit
+
+module _ (w : List ℕ) (fit : length w ≡ 42) where
   -- the words that a whole state leaves are its own
   pub all-stored : (s : State) → stored s w ≡ wordsOf s
   all-stored s =
       let r = storedRegisters (s .registers) w in
-      satp-put (storedPmp (s .pmp) r) (ap length (pmp-put r (registers-length (s .registers)) (s .pmp)) ∙ length-sets r 23 (pmpWords (s .pmp)) ∙ registers-length (s .registers)) (s .satp)
-      ∙ ap (λ (v : List ℕ). set v 41 (s .satp)) (pmp-put r (registers-length (s .registers)) (s .pmp))
+      satp-put (storedPmp (s .pmp) r) (pmp-length r (registers-length w fit (s .registers)) (s .pmp)) (s .satp)
+      ∙ ap (λ (v : List ℕ). set v 41 (s .satp)) (pmp-put r (registers-length w fit (s .registers)) (s .pmp))
       ∙ ap (λ (v : List ℕ). set (sets v 23 (pmpWords (s .pmp))) 41 (s .satp)) (registers-put w fit (s .registers))
       ∙ subst (λ (v : List ℕ). set (sets (sets v 0 (registerWords (s .registers))) 23 (pmpWords (s .pmp))) 41 (s .satp) ≡ wordsOf s) (sym (spelt w fit))
       (all-spelt s w)

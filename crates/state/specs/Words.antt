@@ -42,8 +42,12 @@ registerWords r =
 abbrev pub pmpWords : Pmp → List ℕ
 pmpWords p = packed (take 8 (p .cfgs)) ∷ packed (drop 8 (p .cfgs)) ∷ elements entries 0 (p .addrs)
 
+-- the 41 words of the saved text
+abbrev pub textWords : State → List ℕ
+textWords s = registerWords (s .registers) ++ pmpWords (s .pmp)
+
 unfoldable pub wordsOf : State → List ℕ
-wordsOf s = registerWords (s .registers) ++ pmpWords (s .pmp) ++ s .satp ∷ []
+wordsOf s = textWords s ++ s .satp ∷ []
 
 -- ---- and back
 

@@ -4,11 +4,15 @@ use registers::Registers;
 
 mod hold;
 pub mod places;
+mod texts;
 mod words;
 
 pub use hold::can_hold;
 pub use hold::reset;
 pub use hold::words_can_hold;
+pub use texts::has_text;
+pub use texts::of_text_words;
+pub use texts::to_text_words;
 pub use words::load;
 pub use words::load_pmp;
 pub use words::load_registers;

@@ -14,10 +14,10 @@ use Rattle.engine.proofs.runs.run.Tie as tie
 
 -- the test that the code makes
 tested : (c : tie.After-name-steps) → let a = c .before .before .before .before .args in
-    (eqb (length (a .words .now)) 41 && c .name-steps .result) ≡ runTest (a .words .now) (a .steps .now)
+    (eqb (length (a .words .now)) 42 && c .name-steps .result) ≡ runTest (a .words .now) (a .steps .now)
 tested c =
     let a = c .before .before .before .before .args in
-    ap (λ (b : Bool). eqb (length (a .words .now)) 41 && b) (c .name-steps .ensures)
+    ap (λ (b : Bool). eqb (length (a .words .now)) 42 && b) (c .name-steps .ensures)
 
 returns : tie.Need-returns
 returns c =
@@ -31,8 +31,8 @@ run-steps-requires c κs =
     let i = c .before .before in
     let n = i .before in
     let a = n .before .before .before .before .args in
-    let k = both (eqb (length (a .words .now)) 41) (nameSteps (a .steps .now)) (sym (tested n) ∙ not-false _ (i .if1 .left)) in
-    (eqb-true (length (a .words .now)) 41 (k .0), k .1)
+    let k = both (eqb (length (a .words .now)) 42) (nameSteps (a .steps .now)) (sym (tested n) ∙ not-false _ (i .if1 .left)) in
+    (eqb-true (length (a .words .now)) 42 (k .0), k .1)
 
 returns-2 : tie.Need-returns-2
 returns-2 c =
@@ -42,7 +42,7 @@ returns-2 c =
     let n = i .before in
     let a = n .before .before .before .before .args in
     let k = sym (tested n) ∙ not-false _ (i .if1 .left) in
-    let w : length (a .words .now) ≡ 41 = eqb-true (length (a .words .now)) 41 (both (eqb (length (a .words .now)) 41) (nameSteps (a .steps .now)) k .0) in (
+    let w : length (a .words .now) ≡ 42 = eqb-true (length (a .words .now)) 42 (both (eqb (length (a .words .now)) 42) (nameSteps (a .steps .now)) k .0) in (
       r .run-steps .ensures .0 ∙ run-told (a .words .now) (a .steps .now) (a .answers .now) k,
       (
         run-done (a .words .now) (a .steps .now) (a .answers .now) k _ (record { count = search (needs, w); below = λ j. omega (arith, y .slice-known3 .given j) })
