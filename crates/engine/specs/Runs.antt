@@ -45,8 +45,11 @@ abbrev pub answersOf : State → List Lent → List ℕ
 answersOf s steps = outputs stateAfter answerAfter s steps
 
 -- whether some step hands back a freshly compiled map
+abbrev pub remapsAt : State → Lent → Bool
+remapsAt s l = remaps s (l .memory) (l .step)
+
 abbrev pub anyRemaps : State → List Lent → Bool
-anyRemaps s steps = anyStep stateAfter (λ t l. remaps t (l .memory) (l .step)) s steps
+anyRemaps s steps = anyStep stateAfter remapsAt s steps
 
 -- ---- on slices
 
