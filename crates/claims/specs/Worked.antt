@@ -17,6 +17,7 @@ use Rattle.registers.specs.declared.Registers.{Registers}
 use Rattle.registers.specs.Hold.{resetRegisters}
 use Rattle.registers.specs.Update.{withFlow, withStatus, withInterrupts, withCounters}
 use Rattle.protection.specs.Hold.{resetPmp}
+use Rattle.paging.specs.Memory.{memoryAt}
 use Rattle.map.specs.declared.Range.{Range}
 use Rattle.map.specs.Ranges.{range}
 use Rattle.map.specs.Painting.{rangesOf}
@@ -54,7 +55,7 @@ Right (covers cfg addr first last) = entrySpan (alone cfg) (alone addr) 0 ≡ re
 Right (mapped cfgs addrs ranges) = rangesOf (entrySpan cfgs addrs) ≡ ranges
 Right (counted cfgs addrs n) = length (rangesOf (entrySpan cfgs addrs)) ≡ n
 Right (decided cfgs addrs address size entry) = (mode : Mode) (access : Access) → decider (checked cfgs addrs mode access address size) ≡ entry
-Right (leaves r step register value) = register (stepRule (record { registers = r; pmp = resetPmp }) step .state .registers) ≡ value
+Right (leaves r step register value) = register (stepRule (record { registers = r; pmp = resetPmp; satp = 0 }) (memoryAt [] 0) step .state .registers) ≡ value
 
 abbrev pub AllRight : List Setting → Type 0
 AllRight [] = Unit {0}
