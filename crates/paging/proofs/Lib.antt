@@ -2,3 +2,4 @@
 pub mod SatpLaws
 pub mod WalkLaws
 pub mod AccessLaws
+pub mod Answered
