@@ -3,3 +3,4 @@ pub mod SatpLaws
 pub mod WalkLaws
 pub mod AccessLaws
 pub mod Answered
+pub mod Worked
