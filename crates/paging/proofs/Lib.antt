@@ -2,3 +2,5 @@
 pub mod SatpLaws
 pub mod WalkLaws
 pub mod AccessLaws
+pub mod Answered
+pub mod Worked

@@ -86,15 +86,19 @@ aligned level pte = eqb (ppn pte % pages level) 0
 abbrev pub physical : ℕ → ℕ → ℕ → ℕ
 physical level pte address = ppn pte * 4096 + address % (4096 * pages level)
 
+abbrev pub allows : Context → ℕ → ℕ → Bool
+allows c level pte =
+    permits (c .access) (c .mstatus) pte && (usable (c .mode) (c .access) (c .mstatus) pte && (aligned level pte && marked (c .access) pte))
+
 abbrev pub leafSays : Context → ℕ → ℕ → ℕ → Walked
-leafSays c address level pte =
-    cond (permits (c .access) (c .mstatus) pte && (usable (c .mode) (c .access) (c .mstatus) pte && (aligned level pte && marked (c .access) pte)))
-    (At (physical level pte address))
-    PageFault
+leafSays c address level pte = cond (allows c level pte) (At (physical level pte address)) PageFault
 
 -- U, A and D of a pointer are reserved: a page fault where one is set
+abbrev pub reserved : ℕ → Bool
+reserved pte = user pte || (accessed pte || dirty pte)
+
 abbrev pub pointerSays : ℕ → Found
-pointerSays pte = cond (user pte || (accessed pte || dirty pte)) (Ends PageFault) (Table (ppn pte))
+pointerSays pte = cond (reserved pte) (Ends PageFault) (Table (ppn pte))
 
 unfoldable pub entrySays : Context → ℕ → ℕ → ℕ → Found
 entrySays c address level pte =

@@ -4,3 +4,4 @@ pub mod Memory
 pub mod Entry
 pub mod Walk
 pub mod Access
+pub mod Worked

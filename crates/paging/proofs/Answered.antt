@@ -1,0 +1,166 @@
+-- What an access comes to: refusal 13, refusal 1, or a grant or a fault with one of its kind's two causes, by an entry or none; and, untranslated, what the byte
+-- rule decides. Assumes nothing.
+use Prim.Native.Nat.{ℕ, zero, suc, _+_, _-_, _%_, _^_, _≤_, _<_}
+use mathlib.Core.Path.{_≡_, refl}
+use mathlib.Core.Bool.{Bool, true, false, cond}
+use mathlib.Core.Logic.{_⊎_, inl, inr}
+use native.Mathlib.Nat.{mod-lt}
+use native.Mathlib.Omega.{arith}
+use lib.Dec.{eqb}
+use borrow.Author.Tests.{eq-eqb}
+use Rattle.bits.proofs.Conjunction.{by-test}
+use Rattle.pmp.specs.declared.Mode.the-variants.{Supervisor}
+use Rattle.pmp.specs.declared.Access.{Access}
+use Rattle.pmp.specs.declared.Access.the-variants.{Fetch, Load, Store}
+use Rattle.pmp.specs.declared.Decision.{Decision}
+use Rattle.pmp.specs.declared.Decision.the-variants.{Refused as RuleRefuses}
+use Rattle.pmp.specs.Number.{faultCause}
+use Rattle.pmp.specs.Entry.{entrySpan}
+use Rattle.pmp.specs.Rule.{none, byteRule, isSize, checked}
+use Rattle.pmp.proofs.Answered.{GrantOrFault, grants as rule-grants, faults as rule-faults, rule-answers}
+use Rattle.protection.specs.declared.Pmp.{Pmp}
+use Rattle.paging.specs.declared.Context.{Context}
+use Rattle.paging.specs.declared.Word.{Word}
+use Rattle.paging.specs.declared.Word.the-variants.{Read, Denied}
+use Rattle.paging.specs.declared.Walked.{Walked}
+use Rattle.paging.specs.declared.Walked.the-variants.{At, PageFault, AccessFault}
+use Rattle.paging.specs.declared.Found.{Found}
+use Rattle.paging.specs.declared.Found.the-variants.{Table, Ends}
+use Rattle.paging.specs.declared.Reached.{Reached}
+use Rattle.paging.specs.declared.Reached.the-variants.{Granted, Fault, Refused}
+use Rattle.paging.specs.Memory.{Memory, lawful, hasWord, wordAt}
+use Rattle.paging.specs.Entry.{ppn, wellFormed, leaf, allows, reserved, physical, entrySays}
+use Rattle.paging.specs.Walk.{canonical, entryAddress, readBy, tableRead, wordSays, onward, foundAt, walkFrom, walked}
+use Rattle.paging.specs.Access.{pageFaultCause, translated, byRule, andThen, firstPart, located, arrived, partReached, partsReached, reached}
+
+-- ---- a walk is denied by an entry or none
+
+abbrev ReadByEntry : Word → Type 0
+ReadByEntry (Read word) = Unit {0}
+ReadByEntry (Denied entry) = entry ≤ none
+
+abbrev EndsByEntry : Walked → Type 0
+EndsByEntry (At place) = Unit {0}
+EndsByEntry PageFault = Unit {0}
+EndsByEntry (AccessFault entry) = entry ≤ none
+
+abbrev FoundByEntry : Found → Type 0
+FoundByEntry (Table table) = Unit {0}
+FoundByEntry (Ends w) = EndsByEntry w
+
+read-by-entry : (access : Access) (d : Decision) (w : Word) → GrantOrFault access d → ReadByEntry w → ReadByEntry (readBy d w)
+read-by-entry access _ w (rule-grants entry h) r = r
+read-by-entry access _ w (rule-faults entry h) r = h
+
+word-by-entry : (m : Memory) (address : ℕ) → ReadByEntry (wordAt m address)
+word-by-entry m address = by-test ReadByEntry (hasWord m address) _ _ (λ t. tt) (λ t. omega arith)
+
+entry-by-entry : (c : Context) (address level pte : ℕ) → FoundByEntry (entrySays c address level pte)
+unfolding entrySays
+entry-by-entry c address level pte =
+    by-test FoundByEntry (wellFormed pte) _ _
+    (λ t.
+    by-test FoundByEntry (leaf pte) _ _
+    (λ u. by-test EndsByEntry (allows c level pte) (At (physical level pte address)) PageFault (λ v. tt) (λ v. tt))
+    (λ u. by-test FoundByEntry (reserved pte) (Ends PageFault) (Table (ppn pte)) (λ v. tt) (λ v. tt)))
+    (λ t. tt)
+
+says-by-entry : (c : Context) (address level : ℕ) (w : Word) → ReadByEntry w → FoundByEntry (wordSays c address level w)
+says-by-entry c address level (Read pte) r = entry-by-entry c address level pte
+says-by-entry c address level (Denied entry) r = r
+
+onward-by-entry : (next : ℕ → Walked) (f : Found) → ((table : ℕ) → EndsByEntry (next table)) → FoundByEntry f → EndsByEntry (onward next f)
+onward-by-entry next (Table table) n f = n table
+onward-by-entry next (Ends w) n f = f
+
+module _ (p : Pmp) (m : Memory) (c : Context) (address : ℕ) where
+  found-by-entry : (level table : ℕ) → FoundByEntry (foundAt p m c address level table)
+  unfolding foundAt tableRead
+  found-by-entry level table =
+      let place = entryAddress table level address in
+      says-by-entry c address level (tableRead p m place)
+      (read-by-entry Load _ (wordAt m place) (rule-answers (entrySpan (p .cfgs) (p .addrs)) (p .cfgs) Supervisor Load place 8) (word-by-entry m place))
+
+  walk-by-entry : (level table : ℕ) → EndsByEntry (walkFrom p m c address level table)
+  unfolding walkFrom
+  walk-by-entry zero table = tt
+  walk-by-entry (suc level) table =
+      onward-by-entry (walkFrom p m c address level) (foundAt p m c address level table) (walk-by-entry level) (found-by-entry level table)
+
+  located-by-entry : EndsByEntry (located p m c address)
+  unfolding located walked
+  located-by-entry =
+      by-test EndsByEntry (translated c) _ _
+      (λ t. by-test EndsByEntry (canonical address) _ _ (λ u. walk-by-entry 3 (c .satp)) (λ u. tt)) (λ t. tt)
+
+-- ---- a grant or a fault
+
+pub data Answered (access : Access) : Reached → Type 0 where
+  grants : (entry : ℕ) → entry ≤ none → Answered access (Granted entry)
+  faults : (cause tval entry : ℕ) → (cause ≡ faultCause access) ⊎ (cause ≡ pageFaultCause access) → cause ≤ 15 → tval < 2 ^ 64 → entry ≤ none
+      → Answered access (Fault cause tval entry)
+
+fault-bound : (access : Access) → faultCause access ≤ 15
+fault-bound Fetch = omega arith
+fault-bound Load = omega arith
+fault-bound Store = omega arith
+
+page-fault-bound : (access : Access) → pageFaultCause access ≤ 15
+page-fault-bound Fetch = omega arith
+page-fault-bound Load = omega arith
+page-fault-bound Store = omega arith
+
+rule-answered : (access : Access) (tval : ℕ) (d : Decision) → tval < 2 ^ 64 → GrantOrFault access d → Answered access (byRule tval d)
+rule-answered access tval _ h (rule-grants entry n) = grants entry n
+rule-answered access tval _ h (rule-faults entry n) = faults (faultCause access) tval entry (inl refl) (fault-bound access) h n
+
+then-answered : (access : Access) (x y : Reached) → Answered access x → Answered access y → Answered access (andThen x y)
+then-answered access _ y (grants entry n) q = q
+then-answered access _ y (faults cause tval entry k b h n) q = faults cause tval entry k b h n
+
+module _ (p : Pmp) (m : Memory) (c : Context) where
+  arrived-answered : (address size : ℕ) (w : Walked) → address < 2 ^ 64 → EndsByEntry w → Answered (c .access) (arrived p m c address size w)
+  arrived-answered address size (At place) h e =
+      rule-answered (c .access) address _ h (rule-answers (entrySpan (p .cfgs) (p .addrs)) (p .cfgs) (c .mode) (c .access) place size)
+  arrived-answered address size PageFault h e =
+      faults (pageFaultCause (c .access)) address none (inr refl) (page-fault-bound (c .access)) h (omega arith)
+  arrived-answered address size (AccessFault entry) h e = faults (faultCause (c .access)) address entry (inl refl) (fault-bound (c .access)) h e
+
+  part-answered : (address size : ℕ) → address < 2 ^ 64 → Answered (c .access) (partReached p m c address size)
+  unfolding partReached
+  part-answered address size h = arrived-answered address size (located p m c address) h (located-by-entry p m c address)
+
+  parts-answered : (first address size : ℕ) → address < 2 ^ 64 → Answered (c .access) (partsReached p m c first address size)
+  unfolding partsReached
+  parts-answered first address size h =
+      let next = (address + first) % 2 ^ 64 in
+      let l : next < 2 ^ 64 = mod-lt (address + first) (omega arith) in
+      by-test (Answered (c .access)) (eqb first size) _ _ (λ t. part-answered address size h)
+      (λ t.
+      then-answered (c .access) (partReached p m c address first) (partReached p m c next (size - first)) (part-answered address first h)
+      (part-answered next (size - first) l))
+
+  pub reached-unlawful : (address size : ℕ) → lawful m ≡ false → reached p m c address size ≡ Refused 13
+  unfolding reached
+  reached-unlawful address size l = rw l
+
+  pub reached-missized : (address size : ℕ) → lawful m ≡ true → isSize size ≡ false → reached p m c address size ≡ Refused 1
+  unfolding reached
+  reached-missized address size l s = rw (l, s)
+
+  pub reached-answered : (address size : ℕ) → address < 2 ^ 64 → lawful m ≡ true → isSize size ≡ true
+      → Answered (c .access) (reached p m c address size)
+  unfolding reached
+  reached-answered address size h l s = rw (l, s) (parts-answered (firstPart c address size) address size h)
+
+  -- untranslated it is the decision on the address itself, refusal 1 too
+  pub reached-physical : (address size : ℕ) → lawful m ≡ true → translated c ≡ false
+      → reached p m c address size ≡ byRule address (checked (p .cfgs) (p .addrs) (c .mode) (c .access) address size)
+  unfolding reached partsReached partReached located checked
+  reached-physical address size l n =
+      rw (l, n, eq-eqb size size refl)
+      (by-size (isSize size) (byteRule (entrySpan (p .cfgs) (p .addrs)) (p .cfgs) (c .mode) (c .access) address size))
+    where
+      by-size : (s : Bool) (d : Decision) → cond s (byRule address d) (Refused 1) ≡ byRule address (cond s d (RuleRefuses 1))
+      by-size true d = refl
+      by-size false d = refl
