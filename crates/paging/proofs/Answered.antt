@@ -1,10 +1,9 @@
 -- What an access comes to: refusal 13, refusal 1, or a grant or a fault with one of its kind's two causes, by an entry or none; and, untranslated, what the byte
 -- rule decides. Assumes nothing.
-use Prim.Native.Nat.{ℕ, zero, suc, _+_, _-_, _%_, _^_, _≤_, _<_}
+use Prim.Native.Nat.{ℕ, zero, suc, _+_, _-_, _%_, _^_, _≤_}
 use mathlib.Core.Path.{_≡_, refl}
 use mathlib.Core.Bool.{Bool, true, false, cond}
 use mathlib.Core.Logic.{_⊎_, inl, inr}
-use native.Mathlib.Nat.{mod-lt}
 use native.Mathlib.Omega.{arith}
 use lib.Dec.{eqb}
 use borrow.Author.Tests.{eq-eqb}
@@ -97,7 +96,7 @@ module _ (p : Pmp) (m : Memory) (c : Context) (address : ℕ) where
 
 pub data Answered (access : Access) : Reached → Type 0 where
   grants : (entry : ℕ) → entry ≤ none → Answered access (Granted entry)
-  faults : (cause tval entry : ℕ) → (cause ≡ faultCause access) ⊎ (cause ≡ pageFaultCause access) → cause ≤ 15 → tval < 2 ^ 64 → entry ≤ none
+  faults : (cause tval entry : ℕ) → (cause ≡ faultCause access) ⊎ (cause ≡ pageFaultCause access) → cause ≤ 15 → entry ≤ none
       → Answered access (Fault cause tval entry)
 
 fault-bound : (access : Access) → faultCause access ≤ 15
@@ -110,35 +109,34 @@ page-fault-bound Fetch = omega arith
 page-fault-bound Load = omega arith
 page-fault-bound Store = omega arith
 
-rule-answered : (access : Access) (tval : ℕ) (d : Decision) → tval < 2 ^ 64 → GrantOrFault access d → Answered access (byRule tval d)
-rule-answered access tval _ h (rule-grants entry n) = grants entry n
-rule-answered access tval _ h (rule-faults entry n) = faults (faultCause access) tval entry (inl refl) (fault-bound access) h n
+rule-answered : (access : Access) (tval : ℕ) (d : Decision) → GrantOrFault access d → Answered access (byRule tval d)
+rule-answered access tval _ (rule-grants entry n) = grants entry n
+rule-answered access tval _ (rule-faults entry n) = faults (faultCause access) tval entry (inl refl) (fault-bound access) n
 
 then-answered : (access : Access) (x y : Reached) → Answered access x → Answered access y → Answered access (andThen x y)
 then-answered access _ y (grants entry n) q = q
-then-answered access _ y (faults cause tval entry k b h n) q = faults cause tval entry k b h n
+then-answered access _ y (faults cause tval entry k b n) q = faults cause tval entry k b n
 
 module _ (p : Pmp) (m : Memory) (c : Context) where
-  arrived-answered : (address size : ℕ) (w : Walked) → address < 2 ^ 64 → EndsByEntry w → Answered (c .access) (arrived p m c address size w)
-  arrived-answered address size (At place) h e =
-      rule-answered (c .access) address _ h (rule-answers (entrySpan (p .cfgs) (p .addrs)) (p .cfgs) (c .mode) (c .access) place size)
-  arrived-answered address size PageFault h e =
-      faults (pageFaultCause (c .access)) address none (inr refl) (page-fault-bound (c .access)) h (omega arith)
-  arrived-answered address size (AccessFault entry) h e = faults (faultCause (c .access)) address entry (inl refl) (fault-bound (c .access)) h e
+  arrived-answered : (address size : ℕ) (w : Walked) → EndsByEntry w → Answered (c .access) (arrived p m c address size w)
+  arrived-answered address size (At place) e =
+      rule-answered (c .access) address _ (rule-answers (entrySpan (p .cfgs) (p .addrs)) (p .cfgs) (c .mode) (c .access) place size)
+  arrived-answered address size PageFault e =
+      faults (pageFaultCause (c .access)) address none (inr refl) (page-fault-bound (c .access)) (omega arith)
+  arrived-answered address size (AccessFault entry) e = faults (faultCause (c .access)) address entry (inl refl) (fault-bound (c .access)) e
 
-  part-answered : (address size : ℕ) → address < 2 ^ 64 → Answered (c .access) (partReached p m c address size)
+  part-answered : (address size : ℕ) → Answered (c .access) (partReached p m c address size)
   unfolding partReached
-  part-answered address size h = arrived-answered address size (located p m c address) h (located-by-entry p m c address)
+  part-answered address size = arrived-answered address size (located p m c address) (located-by-entry p m c address)
 
-  parts-answered : (first address size : ℕ) → address < 2 ^ 64 → Answered (c .access) (partsReached p m c first address size)
+  parts-answered : (first address size : ℕ) → Answered (c .access) (partsReached p m c first address size)
   unfolding partsReached
-  parts-answered first address size h =
+  parts-answered first address size =
       let next = (address + first) % 2 ^ 64 in
-      let l : next < 2 ^ 64 = mod-lt (address + first) (omega arith) in
-      by-test (Answered (c .access)) (eqb first size) _ _ (λ t. part-answered address size h)
+      by-test (Answered (c .access)) (eqb first size) _ _ (λ t. part-answered address size)
       (λ t.
-      then-answered (c .access) (partReached p m c address first) (partReached p m c next (size - first)) (part-answered address first h)
-      (part-answered next (size - first) l))
+      then-answered (c .access) (partReached p m c address first) (partReached p m c next (size - first)) (part-answered address first)
+      (part-answered next (size - first)))
 
   pub reached-unlawful : (address size : ℕ) → lawful m ≡ false → reached p m c address size ≡ Refused 13
   unfolding reached
@@ -148,10 +146,10 @@ module _ (p : Pmp) (m : Memory) (c : Context) where
   unfolding reached
   reached-missized address size l s = rw (l, s)
 
-  pub reached-answered : (address size : ℕ) → address < 2 ^ 64 → lawful m ≡ true → isSize size ≡ true
+  pub reached-answered : (address size : ℕ) → lawful m ≡ true → isSize size ≡ true
       → Answered (c .access) (reached p m c address size)
   unfolding reached
-  reached-answered address size h l s = rw (l, s) (parts-answered (firstPart c address size) address size h)
+  reached-answered address size l s = rw (l, s) (parts-answered (firstPart c address size) address size)
 
   -- untranslated it is the decision on the address itself, refusal 1 too
   pub reached-physical : (address size : ℕ) → lawful m ≡ true → translated c ≡ false
