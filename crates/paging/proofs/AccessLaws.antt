@@ -12,11 +12,11 @@ use Rattle.paging.specs.Memory.{Memory}
 use Rattle.paging.specs.Access.{andThen, partReached, partsReached}
 
 module _ (p : Pmp) (m : Memory) (c : Context) (first address size : ℕ) where
-  pub parts-one : first ≡ size → partsReached p m c first address size ≡ partReached p m c address first
+  parts-one : first ≡ size → partsReached p m c first address size ≡ partReached p m c address first
   unfolding partsReached
   parts-one e = rw (e, eq-eqb size size refl)
 
-  pub parts-two : (first ≡ size → ⊥)
+  parts-two : (first ≡ size → ⊥)
       → partsReached p m c first address size
       ≡ andThen (partReached p m c address first) (partReached p m c ((address + first) % 2 ^ 64) (size - first))
   unfolding partsReached

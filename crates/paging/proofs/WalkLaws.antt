@@ -8,8 +8,11 @@ use native.Mathlib.Decide.{decLe}
 use lib.Dec.{leb, eqb}
 use lib.ListN.{length, getD}
 use borrow.Author.Tests.{le-leb, lt-leb, lt-ltb, le-ltb}
-use Rattle.pmp.specs.Entry.{top}
-use Rattle.pmp.specs.Rule.{none}
+use Rattle.pmp.specs.declared.Mode.the-variants.{Supervisor}
+use Rattle.pmp.specs.declared.Access.the-variants.{Load}
+use Rattle.pmp.specs.declared.Decision.{Decision}
+use Rattle.pmp.specs.Entry.{top, entrySpan}
+use Rattle.pmp.specs.Rule.{none, byteRule}
 use Rattle.protection.specs.declared.Pmp.{Pmp}
 use Rattle.paging.specs.declared.Context.{Context}
 use Rattle.paging.specs.declared.Word.the-variants.{Read, Denied}
@@ -18,7 +21,7 @@ use Rattle.paging.specs.declared.Walked.the-variants.{PageFault}
 use Rattle.paging.specs.declared.Found.{Found}
 use Rattle.paging.specs.Memory.{Memory, lawful, wordAt}
 use Rattle.paging.specs.Entry.{pages}
-use Rattle.paging.specs.Walk.{canonical, entryAddress, onward, foundAt, walkFrom, walked}
+use Rattle.paging.specs.Walk.{canonical, entryAddress, readBy, tableRead, onward, foundAt, walkFrom, walked}
 
 -- ---- the pages below an entry
 
@@ -75,6 +78,14 @@ entry-aligned table level address = multiple (table % 2 ^ 44) (address / (4096 *
   where
     multiple : (a b : ℕ) → (a * 4096 + b * 8) % 8 ≡ 0
     multiple a b = omega arith
+
+-- ---- a page-table read, by what the byte rule decides in mode S
+
+module _ (p : Pmp) (m : Memory) (address : ℕ) where
+  pub read-by : (d r : Decision) → r ≡ byteRule (entrySpan (p .cfgs) (p .addrs)) (p .cfgs) Supervisor Load address 8 → r ≡ d
+      → readBy d (wordAt m address) ≡ tableRead p m address
+  unfolding tableRead
+  read-by d r h e = ap (λ (x : Decision). readBy x (wordAt m address)) (sym e ∙ h)
 
 -- ---- the walk, level by level
 

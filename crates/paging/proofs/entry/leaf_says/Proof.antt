@@ -1,6 +1,9 @@
 -- `paging::entry::leaf_says` meets its contract. Assumes nothing.
+use mathlib.Core.Path.{_≡_}
+use mathlib.Core.Bool.{Bool, true, false, cond}
 use native.Mathlib.Omega.{arith}
 use borrow.Author.Needs.{needs}
+use Rattle.paging.specs.declared.Walked.{Walked}
 use Rattle.paging.proofs.WalkLaws.{pages-bounds, place-fits}
 use Rattle.paging.proofs.entry.leaf_says.Statement.{statement}
 use Rattle.paging.proofs.entry.leaf_says.Tie as tie
@@ -21,6 +24,12 @@ add-t22 c =
     let b = pages-bounds (a .args .level) (a .pre) in
     omega (arith, place-fits (p .page .result) (a .args .address) (p .before .pages-below .result) (omega arith) (omega arith) (omega arith))
 
+allowed : (b : Bool) (x y : Walked) → b ≡ true → x ≡ cond b x y
+allowed b x y e = rw e
+
+forbidden : (b : Bool) (x y : Walked) → b ≡ false → y ≡ cond b x y
+forbidden b x y e = rw e
+
 returns : tie.Need-returns
 returns c =
     let m = c .before in
@@ -33,8 +42,7 @@ returns c =
       ← (p .page .ensures),
       ← (p .before .pages-below .ensures),
       ← (m .is-marked .ensures),
-      c .if1 .taken,
-    )
+    ) (allowed _ _ _ (c .if1 .taken))
 
 returns-2 : tie.Need-returns-2
 returns-2 c =
@@ -48,8 +56,7 @@ returns-2 c =
       ← (p .page .ensures),
       ← (p .before .pages-below .ensures),
       ← (m .is-marked .ensures),
-      c .if1 .left,
-    )
+    ) (forbidden _ _ _ (c .if1 .left))
 
 pub leaf-says-spec : {M : Type 1} → statement M
 leaf-says-spec =
