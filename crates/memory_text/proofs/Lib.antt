@@ -1,0 +1,1 @@
+-- The laws that the proofs and the crates above cite.
