@@ -1,16 +1,15 @@
 -- Reading a memory's text line by line is reading its form. Assumes nothing.
-use Prim.Native.Nat.{ℕ, zero, suc, _+_, _-_, _*_, _/_, _≤_, _<_}
+use Prim.Native.Nat.{ℕ, zero, suc, _+_, _-_, _*_, _≤_, _<_}
 use Prim.Native.String.{String}
 use mathlib.Core.Path.{_≡_, refl, sym, ap, _∙_}
-use mathlib.Core.Bool.{Bool, true, false, cond, _&&_, and-assoc, and-true, and-false}
-use mathlib.Core.List.{List, [], _∷_, _++_, map}
+use mathlib.Core.Bool.{Bool, true, false, _&&_, and-assoc, and-true, and-false}
+use mathlib.Core.List.{List, map}
 use native.Mathlib.Omega.{arith}
 use native.Mathlib.Numerals.{add-one}
 use borrow.Author.Tests.{le-leb, lt-leb, leb-true}
 use lib.Dec.{leb}
-use lib.ListN.{length, drop, set, replicate, length-replicate}
+use lib.ListN.{length, set, replicate, length-replicate}
 use lib.Seq.{sets, sets-eq}
-use Rattle.bits.specs.Lists.{Words}
 use Rattle.lines.specs.Lines.{bytesOf, keyOf, linesLength, numberAt, placesOf, wordsIn, isText}
 use Rattle.lines.specs.declared.Field.{Field}
 use Rattle.lines.specs.Fields.{lineAt, wordAt, linesAt, allOk}

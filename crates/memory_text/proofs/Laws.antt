@@ -3,9 +3,10 @@ use Prim.Native.Nat.{ℕ, zero, suc, _-_, _/_, _^_, _<_}
 use Prim.Native.String.{String}
 use mathlib.Core.Path.{_≡_, refl, sym, ap, _∙_}
 use mathlib.Core.Bool.{Bool, true, false, cond}
-use mathlib.Core.List.{List, _∷_}
+use mathlib.Core.List.{List, _∷_, _++_}
 use native.Mathlib.Omega.{arith}
 use borrow.Author.Tests.{le-leb}
+use lib.Dec.{leb}
 use lib.ListN.{length, getD, take, drop, length-replicate}
 use lib.Seq.{take-append-seam}
 use Rattle.bits.specs.Lists.{Words}
@@ -13,7 +14,7 @@ use Rattle.bits.proofs.Conjunction.{both, contradiction}
 use Rattle.lines.specs.Lines.{bytesOf, linesOf, placesOf, wordsIn, isText}
 use Rattle.lines.proofs.Back.{text-only, words-found, words-back, is-text}
 use Rattle.lines.proofs.Reading.{lines-length}
-use Rattle.memory_text.specs.MemoryText.{keys, textOf, wordCount, mostWords, isMemoryText, baseIn, memoryIn, isTaken, readMemory, storedIn}
+use Rattle.memory_text.specs.MemoryText.{keys, textOf, wordCount, mostWords, isMemoryText, baseIn, memoryIn, isTaken, readAs, noMemory, readMemory, storedIn}
 use Rattle.memory_text.specs.RoundTrip.{IsMemory, RoundTrip}
 use Rattle.memory_text.proofs.Form.{keys-length, text-sized, memory-length}
 
@@ -56,7 +57,7 @@ module _ (t : List ℕ) where
   unfolding isMemoryText textOf
   text-again e =
       let ks = keys (wordCount t) in
-      text-only ks t (both _ (isText ks t) e .1) ∙ ap (linesOf ks 0) found-parts ∙ rw (memory-length t)
+      text-only ks t (both (leb (wordCount t) mostWords) (isText ks t) e .1) ∙ ap (linesOf ks 0) found-parts ∙ rw (memory-length t)
 
   is-memory : isMemoryText t ≡ true → IsMemory (baseIn t) (memoryIn t)
   is-memory e =
@@ -70,4 +71,15 @@ one-text t u p q b w = text-again t p ∙ (λ j. textOf (b j) (w j)) ∙ sym (te
 pub round-trip : RoundTrip
 round-trip = record { memory-back = memory-back; text-back = λ t e. (is-memory t e, text-again t e); one-text = one-text }
 
--- ---- reading to a slice
+-- ---- a text that is taken: its memory is what the reading and the front of the slice say
+pub read-back : (t s : List ℕ) → let r = readMemory t (length s) in r .ok ≡ true
+    → (isMemoryText t ≡ true) × (r .base ≡ baseIn t) × (take (r .count) (storedIn t s) ≡ memoryIn t)
+unfolding isTaken readMemory storedIn
+read-back t s e = go (isTaken t (length s)) refl e
+  where
+    go : (b : Bool) → isTaken t (length s) ≡ b → cond b (readAs (baseIn t) (wordCount t)) noMemory .ok ≡ true →
+        let r = cond b (readAs (baseIn t) (wordCount t)) noMemory in
+        (isMemoryText t ≡ true) × (r .base ≡ baseIn t) × (take (r .count) (cond b (memoryIn t ++ drop (wordCount t) s) s) ≡ memoryIn t)
+    go true p q =
+        (both (isMemoryText t) (leb (wordCount t) (length s)) p .0, refl, rw (← memory-length t) (take-append-seam (memoryIn t) (drop (length (memoryIn t)) s)))
+    go false p q = contradiction q refl

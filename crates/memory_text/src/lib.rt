@@ -16,7 +16,13 @@ fn is_memory_text(text: &[u8]) -> bool
     ensures { λ r. ⌜ r ≡ isMemoryText (now (text .entry)) ⌝ }
 {
     let total = text.len() / 22;
-    if text.len() % 22 != 0 || total == 0 || total > 65537 {
+    if text.len() != 22 * total {
+        return false;
+    }
+    if total == 0 {
+        return false;
+    }
+    if total > 65537 {
         return false;
     }
     let mut ok = lines::read_line(text, 0, b"base=").ok;

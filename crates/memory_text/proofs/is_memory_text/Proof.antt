@@ -1,15 +1,12 @@
 -- `memory_text::is_memory_text` meets its contract. Assumes nothing.
 use Rattle.memory_text.proofs.Form.{areWords, length-refused, more-refused, lines-start, lines-more, lines-all}
-use Rattle.memory_text.specs.MemoryText.{wordCount, isMemoryText}
+use Rattle.memory_text.specs.MemoryText.{isMemoryText}
 use Rattle.lines.specs.Lines.{bytesOf}
-use Prim.Native.Nat.{_+_, _-_, _*_, _/_, _≤_}
-use mathlib.Core.Bool.{true, _&&_}
-use mathlib.Core.Logic.{⊎-elim}
-use mathlib.Core.Path.{_≡_, sym, ap, _∙_}
+use Prim.Native.Nat.{_+_, _-_, _*_, _≤_}
+use mathlib.Core.Bool.{_&&_}
+use mathlib.Core.Path.{_≡_, sym, _∙_}
 use native.Mathlib.Omega.{arith}
-use borrow.Author.Tests.{eqb-true, eqb-false, ltb-true, ltb-false}
 use borrow.Author.Needs.{needs}
-use lib.ListN.{length}
 use Rattle.memory_text.proofs.is_memory_text.Statement.{statement}
 use Rattle.memory_text.proofs.is_memory_text.Tie as tie
 
@@ -19,55 +16,21 @@ Inv-loop text total ok₀ i₀ t6 ok i = (total ≤ 65537) × (isMemoryText text
 abbrev μ-loop : tie.MeasureT-loop
 μ-loop text total ok₀ i₀ t6 ok i = total - i
 
--- src/lib.rt:20:9
 returns : tie.Need-returns Inv-loop μ-loop
-returns c =
-    let t = c .before .before .args .text .now in
-    ⊎-elim
-    (λ a. length-refused t (λ e. a .taken (omega arith)))
-    (⊎-elim (λ b. length-refused t (λ e. absurd (omega (arith, eqb-true (length t / 22) 0 (b .1 .taken))))) (λ d. more-refused t (omega (arith, ltb-true 65537 (length t / 22) (d .2 .taken)))))
-    (c .if1 .came)
+returns c = length-refused (c .before .before .args .text .now) (λ e. c .if1 .taken (omega arith))
 
--- src/lib.rt:22:44
-slice-aggregate-read-line : tie.Need-slice-aggregate-read-line Inv-loop μ-loop
-slice-aggregate-read-line c = search needs
+returns-2 : tie.Need-returns-2 Inv-loop μ-loop
+returns-2 c = length-refused (c .before .before .before .args .text .now) (λ e. absurd (omega arith))
 
--- src/lib.rt:22:18
-read-line-requires : tie.Need-read-line-requires Inv-loop μ-loop
-read-line-requires c κs = search needs
+returns-3 : tie.Need-returns-3 Inv-loop μ-loop
+returns-3 c = more-refused (c .before .before .before .before .args .text .now) (omega arith)
 
--- src/lib.rt:24:5
 loop-holds : tie.Need-loop-holds Inv-loop μ-loop
 unfolding bytesOf
 loop-holds c =
-    let third = c .before .before in
-    let t = third .before .before .before .before .args .text .now in
-    let most : length t / 22 ≤ 65537 = omega (arith, ltb-false 65537 (length t / 22) (third .if3 .left)) in
-    let some = eqb-false (length t / 22) 0 (third .before .if2 .left) in
-    let whole = third .before .before .if1 .left in
-    (most, lines-start t (omega arith) (omega arith) ∙ rw (← c .read-line .ensures))
+    let t = c .before .before .before .before .before .before .args .text .now in
+    (omega arith, lines-start t (omega arith) (omega arith) ∙ rw (← c .read-line .ensures))
 
--- src/lib.rt:25:42
-mul-read-line : tie.Need-mul-read-line Inv-loop μ-loop
-mul-read-line c = search needs
-
--- src/lib.rt:25:50
-slice-aggregate-read-line-2 : tie.Need-slice-aggregate-read-line-2 Inv-loop μ-loop
-slice-aggregate-read-line-2 c = search needs
-
--- src/lib.rt:25:19
-read-line-requires-2 : tie.Need-read-line-requires-2 Inv-loop μ-loop
-read-line-requires-2 c κs = search needs
-
--- src/lib.rt:26:9
-add-i : tie.Need-add-i Inv-loop μ-loop
-add-i c = search needs
-
--- src/lib.rt:24:5
-loop-less : tie.Need-loop-less Inv-loop μ-loop
-loop-less c = search needs
-
--- src/lib.rt:24:5
 loop-again : tie.Need-loop-again Inv-loop μ-loop
 unfolding bytesOf
 loop-again c =
@@ -76,9 +39,8 @@ loop-again c =
     let a = l .before .before .before .before .before .before .before .args in
     (l .loop .inv .0, l .loop .inv .1 ∙ lines-more (a .text .now) _ (l .loop .i) (l .loop .ok) (r .read-line2 .result) (r .before .before .loop-test .taken) (r .read-line2 .ensures))
 
--- src/lib.rt:15:1
-returns-2 : tie.Need-returns-2 Inv-loop μ-loop
-returns-2 c =
+returns-4 : tie.Need-returns-4 Inv-loop μ-loop
+returns-4 c =
     let l = c .before .loop in
     let a = c .before .before .before .before .before .before .before .before .args in
     sym (l .inv .1 ∙ lines-all (a .text .now) _ (l .i) (l .ok) (c .loop-test .left))
@@ -89,14 +51,17 @@ is-memory-text-spec =
     (tie.spec
     Inv-loop
     μ-loop
+    (λ c. search needs)
     returns
-    slice-aggregate-read-line
-    read-line-requires
+    returns-2
+    returns-3
+    (λ c. search needs)
+    (λ c κs. search needs)
     loop-holds
-    mul-read-line
-    slice-aggregate-read-line-2
-    read-line-requires-2
-    add-i
-    loop-less
+    (λ c. search needs)
+    (λ c. search needs)
+    (λ c κs. search needs)
+    (λ c. search needs)
+    (λ c. search needs)
     loop-again
-    returns-2)
+    returns-4)

@@ -3,7 +3,7 @@ use Rattle.memory_text.proofs.Form.{text-sized, wordsFrom, words-start,
 use Rattle.memory_text.specs.MemoryText.{wordCount, mostWords, isMemoryText, memoryIn}
 use Rattle.lines.proofs.Reading.{word-within}
 use Rattle.lines.specs.declared.Field.{Field}
-use Prim.Native.Nat.{_+_, _-_, _*_, _/_, _≤_}
+use Prim.Native.Nat.{_+_, _-_, _*_, _≤_}
 use mathlib.Core.Bool.{true}
 use mathlib.Core.Path.{_≡_, refl, sym, ap, _∙_}
 use native.Mathlib.Omega.{arith}
@@ -22,7 +22,7 @@ Inv-loop text words₀ count i₀ words i =
 abbrev μ-loop : tie.MeasureT-loop
 μ-loop text words₀ count i₀ words i = count - i
 
--- a text in the form is taken where the slice has room
+-- what is known of a text in the form
 sized : (c : tie.Else1 Inv-loop μ-loop) →
     let t = c .before .before .before .before .args .text .now in
     (isMemoryText t ≡ true) × (length t ≡ 22 * wordCount t + 22) × (wordCount t ≤ mostWords)
@@ -33,62 +33,34 @@ sized c =
     let s = text-sized t e in
     (e, s .0, s .1)
 
--- src/lib.rt:38:9
-is-memory-text-requires : tie.Need-is-memory-text-requires Inv-loop μ-loop
-is-memory-text-requires c κs = search needs
-
--- src/lib.rt:39:9
 returns : tie.Need-returns Inv-loop μ-loop
 returns c =
     let a = c .before .before .before .before .args in
     let r = c .before .is-memory-text in
     not-taken (a .text .now) (a .words .now) (broken-refused (a .text .now) (a .words .now) (sym (r .ensures) ∙ not-true (r .result) (c .if1 .taken)))
 
--- src/lib.rt:45:17
 sub-count : tie.Need-sub-count Inv-loop μ-loop
 sub-count c = let s = sized c in omega (arith, s .1)
 
--- src/lib.rt:47:9
 returns-2 : tie.Need-returns-2 Inv-loop μ-loop
 returns-2 c =
     let a = c .before .before .before .before .before .args in
     not-taken (a .text .now) (a .words .now) (long-refused (a .text .now) (a .words .now) (c .if2 .taken))
 
--- src/lib.rt:54:5
 loop-holds : tie.Need-loop-holds Inv-loop μ-loop
 loop-holds c =
     let a = c .before .before .before .before .before .args in
     (sized (c .before) .0, c .if2 .left, refl, words-start (a .text .now) (a .words .now))
 
--- src/lib.rt:55:43
 mul-read-word : tie.Need-mul-read-word Inv-loop μ-loop
 mul-read-word c = let s = sized (c .before .before .before) in search needs
 
--- src/lib.rt:55:43
 add-read-word : tie.Need-add-read-word Inv-loop μ-loop
 add-read-word c = let s = sized (c .before .before .before) in search needs
 
--- src/lib.rt:55:20
-read-word-requires : tie.Need-read-word-requires Inv-loop μ-loop
-read-word-requires c κs = search needs
-
--- src/lib.rt:55:9
 mul-words : tie.Need-mul-words Inv-loop μ-loop
 mul-words c = let s = sized (c .before .before .before .before) in search needs
 
--- src/lib.rt:55:9
-slice-write-words : tie.Need-slice-write-words Inv-loop μ-loop
-slice-write-words c = search needs
-
--- src/lib.rt:56:9
-add-i : tie.Need-add-i Inv-loop μ-loop
-add-i c = search needs
-
--- src/lib.rt:54:5
-loop-less : tie.Need-loop-less Inv-loop μ-loop
-loop-less c = search needs
-
--- src/lib.rt:54:5
 loop-again : tie.Need-loop-again Inv-loop μ-loop
 loop-again c =
     let l = c .before .before .loop in
@@ -98,15 +70,9 @@ loop-again c =
     let m = words-more t (wordCount t) (l .i) (l .words) f (c .before .loop-test .taken) (omega (arith, sized e .1)) (c .read-word .ensures) in
     (l .inv .0, l .inv .1, length-set (l .words) (l .i) (f .word) ∙ l .inv .2, l .inv .3 ∙ m)
 
--- src/lib.rt:58:16
-read-word-requires-2 : tie.Need-read-word-requires-2 Inv-loop μ-loop
-read-word-requires-2 c κs = search needs
-
--- src/lib.rt:33:1
 same-length : tie.Need-same-length Inv-loop μ-loop
 same-length c = c .before .before .loop .inv .2
 
--- src/lib.rt:33:1
 returns-3 : tie.Need-returns-3 Inv-loop μ-loop
 returns-3 c =
     let l = c .before .before .loop in
@@ -125,19 +91,19 @@ read-spec =
     (tie.spec
     Inv-loop
     μ-loop
-    is-memory-text-requires
+    (λ c κs. search needs)
     returns
     sub-count
     returns-2
     loop-holds
     mul-read-word
     add-read-word
-    read-word-requires
+    (λ c κs. search needs)
     mul-words
-    slice-write-words
-    add-i
-    loop-less
+    (λ c. search needs)
+    (λ c. search needs)
+    (λ c. search needs)
     loop-again
-    read-word-requires-2
+    (λ c κs. search needs)
     same-length
     returns-3)
