@@ -8,7 +8,7 @@ use lib.ListN.{length, getD, drop, replicate}
 use Rattle.lines.specs.Lines.{linesOf, wordsIn, isText}
 use Rattle.memory_text.specs.declared.Reading.{Reading}
 
--- those of n words
+-- in the text of n words
 unfoldable pub keys : ℕ → List String
 keys n = "base" ∷ replicate n "word"
 
