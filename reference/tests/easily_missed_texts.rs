@@ -2,8 +2,8 @@
 //! readings.
 
 use reference::{
-    HART_WORDS, Hart, KEYS, Map, Refusal, Step, TEXT_LENGTH, form, read_record, replay, restore,
-    save, write_record,
+    HART_WORDS, Hart, KEYS, Map, Memory, Refusal, Step, TEXT_LENGTH, form, read_record, replay,
+    restore, save, write_record,
 };
 
 fn reset_text() -> [u8; TEXT_LENGTH] {
@@ -12,7 +12,7 @@ fn reset_text() -> [u8; TEXT_LENGTH] {
 
 fn replayed(start: Option<&[u8]>, input: &[u8]) -> String {
     let mut output = Vec::new();
-    replay(start, &mut &input[..], &mut output).unwrap();
+    replay(start, Memory::EMPTY, &mut &input[..], &mut output).unwrap();
     String::from_utf8(output).unwrap()
 }
 

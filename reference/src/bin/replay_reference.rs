@@ -8,7 +8,7 @@ use std::io::{self, BufReader, BufWriter, Write};
 use std::path::Path;
 use std::process::ExitCode;
 
-use reference::{TEXT_LENGTH, fill, replay};
+use reference::{Memory, TEXT_LENGTH, fill, replay};
 
 fn main() -> ExitCode {
     let arguments: Vec<OsString> = std::env::args_os().skip(1).collect();
@@ -32,7 +32,7 @@ fn run(start: Option<&Path>) -> Result<(), Box<dyn Error>> {
     let text = start.map(read_start).transpose()?;
     let mut input = BufReader::with_capacity(1 << 16, io::stdin().lock());
     let mut output = BufWriter::with_capacity(1 << 16, io::stdout().lock());
-    replay(text.as_deref(), &mut input, &mut output)?;
+    replay(text.as_deref(), Memory::EMPTY, &mut input, &mut output)?;
     output.flush()?;
     Ok(())
 }

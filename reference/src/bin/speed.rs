@@ -7,7 +7,7 @@ use std::time::Instant;
 
 use reference::csr::Operation;
 use reference::csr::number::{MSCRATCH, MSTATUS, PMPADDR0, SSTATUS};
-use reference::{Access, Hart, Map, Mode, Step, query, step};
+use reference::{Access, Hart, Map, Memory, Mode, Step, query, step};
 
 const RUNS: usize = 7;
 const DEFAULT_STEPS: u64 = 2_000_000;
@@ -47,7 +47,7 @@ fn steps_of(steps: &[Step]) -> impl FnMut(u64) + use<> {
     let (mut hart, mut map) = (Hart::reset(), Map::reset());
     let mut place = 0;
     move |_| {
-        black_box(step(&mut hart, &mut map, black_box(steps[place])));
+        black_box(step(&mut hart, &mut map, Memory::EMPTY, black_box(steps[place])));
         place = if place + 1 == steps.len() { 0 } else { place + 1 };
     }
 }
@@ -78,7 +78,7 @@ fn protection_writes() -> impl FnMut(u64) {
         let number = PMPADDR0 + place % 16;
         let operand = 2 * (place % 16) + 1 + 64 * (place / 16 % 2 + 1);
         let next = Step::CsrWrite { number, operation: Operation::Write, operand };
-        black_box(step(&mut hart, &mut map, black_box(next)));
+        black_box(step(&mut hart, &mut map, Memory::EMPTY, black_box(next)));
     }
 }
 
@@ -88,7 +88,7 @@ fn byte_rule() -> impl FnMut(u64) {
     let mut map = hart.compile();
     move |place| {
         let next = Step::Load { address: 0x1000 + place % 64, size: 8 };
-        black_box(step(&mut hart, &mut map, black_box(next)));
+        black_box(step(&mut hart, &mut map, Memory::EMPTY, black_box(next)));
     }
 }
 

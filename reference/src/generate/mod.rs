@@ -17,7 +17,7 @@ pub use interrupts::mixed_delegation;
 pub use map::map;
 pub use napot::napot_registers;
 pub use settings::{Setting, settings};
-pub use state::{damaged, holdable};
+pub use state::{damaged, holdable, narrowed};
 pub use step::{csr_operand, size, step};
 pub use text::text;
 pub use tiles::tiles;

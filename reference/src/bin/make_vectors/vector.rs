@@ -4,7 +4,7 @@ use std::fs;
 use std::io;
 use std::path::Path;
 
-use reference::{Hart, form, replay, write_record};
+use reference::{Hart, Memory, form, replay, write_record};
 
 #[derive(Clone)]
 pub struct Vector {
@@ -36,7 +36,7 @@ impl Vector {
 
     fn expected(&self) -> io::Result<Vec<u8>> {
         let mut output = Vec::new();
-        replay(self.start.as_deref(), &mut &self.trace[..], &mut output)?;
+        replay(self.start.as_deref(), Memory::EMPTY, &mut &self.trace[..], &mut output)?;
         Ok(output)
     }
 }
