@@ -92,7 +92,7 @@ fn the_form_is_judged_before_the_state() {
 
 #[test]
 fn every_register_has_its_own_line() {
-    for word in 0..HART_WORDS {
+    for word in 0..KEYS.len() {
         let mut words = Hart::reset().to_words();
         words[word] ^= match word {
             0 => 3,
