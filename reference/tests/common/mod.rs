@@ -1,6 +1,8 @@
 //! Short forms shared by the tests.
 #![allow(dead_code)]
 
+pub mod paging;
+
 use reference::{
     Access, Answer, Cause, Entry, Hart, MACHINE, Map, Memory, Mode, Range, Refusal, Ruling, Step,
     Verdict, step,
