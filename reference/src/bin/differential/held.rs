@@ -24,7 +24,7 @@ pub fn walk(sizes: &Sizes) -> Result<u64, Difference> {
         let map = generate::map(random, &held).to_words();
         let mut hart = held.to_words();
         change(&mut hart, case as usize % (BITS + BYTES));
-        compare_calls(random, &Lent { hart, map })
+        compare_calls(random, &Lent::new(hart, map))
     })?;
     Ok(states)
 }

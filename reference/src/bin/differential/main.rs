@@ -2,7 +2,7 @@
 //! difference.
 //!
 //! `differential [small] [loud] [only=N] [seed=N] [walks=N] [steps=N] [runs=N]
-//! [queries=N] [texts=N] [calls=N]`: numbers are decimal; one walk is every CSR number in
+//! [queries=N] [texts=N] [calls=N] [paging=N]`: numbers are decimal; one walk is every CSR number in
 //! every mode by every operation with all else that its access hangs on, every choice
 //! that step 7 can have to make, every shape of a NAPOT register, every setting listed
 //! for the boundaries of a map, every map of a few ranges over a few bytes, every bit of
@@ -21,7 +21,8 @@
 //! goes for the NAPOT entries whose range would be another if trailing zeros were
 //! counted: 3,074 in each walk. And for the maps with 33 ranges that the listed
 //! settings make: 406 in each walk. Of queries, and of accesses by steps, it tells how
-//! many were of each class; the comparison fails where a class has too few of them.
+//! many were of each class; the comparison fails where a class has too few of them. So
+//! it does of the accesses by page tables, whose ends `diagnosis.rs` judges by itself.
 
 mod accesses;
 mod boundaries;
@@ -29,12 +30,15 @@ mod calls;
 mod classes;
 mod compare;
 mod deciders;
+mod diagnosis;
 mod held;
 mod interrupts;
 mod lengths;
 mod napot;
 mod narrow;
 mod orders;
+mod outcomes;
+mod paging;
 mod queries;
 mod reading;
 mod reads;
@@ -90,8 +94,9 @@ fn compare_all(sizes: &Sizes) -> Result<String, Difference> {
     let (run_steps, run_telling) = runs::random(sizes)?;
     let reads = queries::random(sizes)?;
     texts::restored(sizes)?;
-    texts::saved(sizes)?;
+    let without_text = texts::saved(sizes)?;
     calls::wrong(sizes)?;
+    let outcomes = paging::random(sizes)?;
     if let Some(case) = sizes.only {
         return Ok(format!("case {case} alone of each stage"));
     }
@@ -101,7 +106,8 @@ fn compare_all(sizes: &Sizes) -> Result<String, Difference> {
          {held} states with one word changed, {spelled} texts with one byte changed, \
          {lengths} runs of any lengths, {} random steps with {step_telling}, \
          {} runs of {run_steps} steps with {run_telling}, \
-         {} queries with {reads}, {} texts read, {} texts saved, {} wrong calls",
-        sizes.steps, sizes.runs, sizes.queries, sizes.texts, sizes.texts, sizes.calls
+         {} queries with {reads}, {} texts read, {} texts saved ({without_text} refused 12), {} wrong calls, \
+         {} settings of page tables with {outcomes}",
+        sizes.steps, sizes.runs, sizes.queries, sizes.texts, sizes.texts, sizes.calls, sizes.paging
     ))
 }

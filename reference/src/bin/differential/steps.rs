@@ -19,7 +19,7 @@ pub fn random(sizes: &Sizes) -> Result<Telling, Difference> {
         let lent = Lent::random(random);
         let words = random_step(random, &lent);
         telling.count(&lent, words);
-        compare_step(&lent, words)
+        compare_step(&lent, words).map(drop)
     })?;
     telling.check("steps")?;
     Ok(telling)

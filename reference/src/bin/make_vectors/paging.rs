@@ -113,6 +113,7 @@ fn splits() -> Vector {
             }
         }
     }
+    steps.push([WRITE, SATP, 0]);
     with_tables("paging-splits", &steps)
 }
 
@@ -140,6 +141,7 @@ fn table_reads() -> Vector {
     }
     steps.push([WRITE, PMPCFG0, 0]);
     steps.extend(accesses(USER, 0, page));
+    steps.push([WRITE, SATP, 0]);
     with_tables("paging-table-reads", &steps)
 }
 
