@@ -4,7 +4,8 @@ use reference::capi::Question;
 use reference::sv39::satp;
 use reference::{Hart, status};
 
-use crate::compare::{Lent, compare_step};
+use crate::compare::compare_step;
+use crate::lent::Lent;
 use crate::queries::compare_query;
 
 /// The kinds of access in a query are in the order of the steps from this one on.

@@ -5,7 +5,7 @@ use reference::capi;
 use reference::random::Random;
 use reference::{ANSWER_WORDS, HART_WORDS, MAP_WORDS, STEP_WORDS};
 
-use crate::compare::Lent;
+use crate::lent::Lent;
 use crate::queries::random_question;
 use crate::report::{Difference, Stage};
 use crate::sizes::Sizes;

@@ -6,7 +6,7 @@ use reference::protection::leaves_memory;
 use reference::{Hart, NONE, STEP_WORDS, Step};
 
 use crate::classes::{Class, Tally};
-use crate::compare::Lent;
+use crate::lent::Lent;
 use crate::report::Difference;
 
 /// The lowest entry that matches each byte of an access; nothing past memory.

@@ -3,7 +3,8 @@
 use reference::random::Random;
 use reference::{HART_WORDS, TEXT_LENGTH, form, generate};
 
-use crate::compare::{Lent, compare_step};
+use crate::compare::compare_step;
+use crate::lent::Lent;
 use crate::queries::{compare_query, random_question};
 use crate::report::{Difference, Stage};
 use crate::sizes::Sizes;

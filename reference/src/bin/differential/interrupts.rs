@@ -3,7 +3,8 @@
 use reference::random::Random;
 use reference::{Hart, Mode, generate, mask, status};
 
-use crate::compare::{Lent, compare_step};
+use crate::compare::compare_step;
+use crate::lent::Lent;
 use crate::orders::{Orders, TAKE_INTERRUPT};
 use crate::report::{Difference, Stage};
 use crate::sizes::Sizes;

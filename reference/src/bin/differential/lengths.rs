@@ -4,7 +4,7 @@ use reference::random::Random;
 use reference::{ANSWER_WORDS, STEP_WORDS, capi};
 
 use crate::calls::{Slices, judge};
-use crate::compare::Lent;
+use crate::lent::Lent;
 use crate::report::{Difference, Stage};
 use crate::runs::compare_run;
 use crate::sizes::Sizes;

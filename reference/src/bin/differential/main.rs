@@ -34,6 +34,7 @@ mod diagnosis;
 mod held;
 mod interrupts;
 mod lengths;
+mod lent;
 mod napot;
 mod narrow;
 mod orders;
@@ -51,6 +52,7 @@ mod steps;
 mod telling;
 mod texts;
 mod trailing;
+mod walker;
 
 use std::process::ExitCode;
 use std::time::Instant;

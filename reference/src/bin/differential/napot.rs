@@ -8,7 +8,8 @@ use reference::random::Random;
 use reference::{Hart, MACHINE, Range, SUPERVISOR, USER, generate, mask};
 
 use crate::accesses::compare_access;
-use crate::compare::{Lent, step_both};
+use crate::compare::step_both;
+use crate::lent::Lent;
 use crate::report::{Difference, Stage};
 use crate::sizes::Sizes;
 use crate::trailing::Trailing;

@@ -7,7 +7,7 @@ use reference::protection::{LOCK, MEMORY};
 use reference::random::Random;
 use reference::{Hart, Map, Mode, NONE, RANGES, Range};
 
-use crate::compare::Lent;
+use crate::lent::Lent;
 use crate::queries::compare_query;
 use crate::reads::Reads;
 use crate::report::{Difference, Stage};

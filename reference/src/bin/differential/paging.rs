@@ -6,8 +6,9 @@ use reference::generate::Paging;
 use reference::random::Random;
 use reference::{ANSWER_WORDS, Hart, STEP_WORDS, generate};
 
-use crate::compare::{Lent, compare_step, compare_ways};
+use crate::compare::{compare_step, compare_ways};
 use crate::diagnosis::Diagnosis;
+use crate::lent::Lent;
 use crate::outcomes::Outcomes;
 use crate::report::{Difference, Stage, answer_text};
 use crate::runs::compare_run;

@@ -5,7 +5,8 @@ use std::collections::HashSet;
 use reference::random::Random;
 use reference::{Hart, Mode, STEP_WORDS, generate, status};
 
-use crate::compare::{Lent, compare_ways};
+use crate::compare::compare_ways;
+use crate::lent::Lent;
 use crate::reasons::{NUMBERS, READ, REASONS, Reasons};
 use crate::report::{Difference, Stage};
 use crate::sizes::Sizes;

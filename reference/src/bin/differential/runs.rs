@@ -3,7 +3,8 @@
 use reference::random::Random;
 use reference::{ANSWER_WORDS, Hart, Map, STEP_WORDS, capi};
 
-use crate::compare::{Lent, map_difference, result_difference};
+use crate::compare::{map_difference, result_difference};
+use crate::lent::Lent;
 use crate::report::{Difference, Stage, show};
 use crate::sizes::Sizes;
 use crate::steps::random_step;

@@ -5,7 +5,8 @@ use reference::{
     HART_WORDS, Hart, MAP_WORDS, Refusal, TEXT_LENGTH, capi, form, generate, restore, save,
 };
 
-use crate::compare::{Lent, map_difference};
+use crate::compare::map_difference;
+use crate::lent::Lent;
 use crate::report::{Difference, Stage, show, state_difference, state_text};
 use crate::sizes::Sizes;
 
