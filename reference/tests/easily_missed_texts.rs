@@ -2,8 +2,8 @@
 //! readings.
 
 use reference::{
-    HART_WORDS, Hart, KEYS, Map, Memory, Refusal, Step, TEXT_LENGTH, form, read_record, replay,
-    restore, save, write_record,
+    Hart, KEYS, Map, Memory, Refusal, Step, TEXT_LENGTH, form, read_record, replay, restore, save,
+    write_record,
 };
 
 fn reset_text() -> [u8; TEXT_LENGTH] {
