@@ -20,13 +20,13 @@ const CLASSES: [Class<Diagnosis>; 42] = [
     class("of W without R", 150, |case| flaw(case, Flaw::WriteOnly)),
     class("of reserved bits", 150, |case| flaw(case, Flaw::Reserved)),
     class("of pointers with U, A or D", 100, |case| flaw(case, Flaw::PointerBits)),
-    class("of pointers at level 0", 400, |case| flaw(case, Flaw::PointerAtLevel0)),
+    class("of pointers at level 0", 500, |case| flaw(case, Flaw::PointerAtLevel0)),
     class("of R, W or X", 20, |case| flaw(case, Flaw::Rights)),
     class("of S on pages of U", 60, |case| flaw(case, Flaw::OfUser)),
     class("of U on pages of S", 40, |case| flaw(case, Flaw::OfSupervisor)),
-    class("of misaligned superpages", 300, |case| flaw(case, Flaw::Misaligned)),
-    class("of A=0", 300, |case| flaw(case, Flaw::NotAccessed)),
-    class("of D=0", 400, |case| flaw(case, Flaw::NotDirty)),
+    class("of misaligned superpages", 500, |case| flaw(case, Flaw::Misaligned)),
+    class("of A=0", 500, |case| flaw(case, Flaw::NotAccessed)),
+    class("of D=0", 500, |case| flaw(case, Flaw::NotDirty)),
     class("access faults of table reads by an entry", 30, |case| {
         case.end == End::TableDenied(true)
     }),
@@ -38,10 +38,10 @@ const CLASSES: [Class<Diagnosis>; 42] = [
     class("with a page fault in part two", 80, |case| {
         in_second(case) && matches!(case.end, End::Page(_))
     }),
-    class("with a denied table read in part two", 600, |case| {
+    class("with a denied table read in part two", 800, |case| {
         in_second(case) && matches!(case.end, End::TableDenied(_))
     }),
-    class("outside the slice in part two", 600, |case| {
+    class("outside the slice in part two", 800, |case| {
         in_second(case) && case.end == End::OutsideSlice
     }),
     class("denied itself in part two", 600, |case| in_second(case) && case.end == End::Denied),

@@ -1,6 +1,6 @@
 //! Accesses by page tables, and the modes and bits of mstatus that they hang on.
 
-use super::Paging;
+use super::{Paging, pick_page};
 use crate::csr::number::{MSTATUS, SATP, SSTATUS};
 use crate::generate::size;
 use crate::hart::{Hart, MACHINE, SUPERVISOR, USER};
@@ -67,7 +67,7 @@ impl Paging {
     /// no canonical one.
     fn address(&self, random: &mut Random) -> u64 {
         let before = random.below(9);
-        let page = random.pick(&self.pages);
+        let page = pick_page(random, &self.pages);
         match random.below(24) {
             0 => page ^ 1 << (39 + random.below(25)),
             1 => random.pick(&[1u64 << 38, !0 << 38, 0]).wrapping_sub(before),

@@ -16,6 +16,11 @@ use tables::Tables;
 /// How many pages the accesses of one setting are to.
 const POOL: usize = 4;
 
+/// One of the pages, those listed first more often.
+fn pick_page(random: &mut Random, pages: &[u64; POOL]) -> u64 {
+    pages[random.index(POOL).min(random.index(POOL))]
+}
+
 /// One hart with its page tables, and pages to access.
 pub struct Paging {
     pub hart: Hart,

@@ -2,6 +2,7 @@
 //! below it some over what walks read and lead to.
 
 use super::tables::Tables;
+use super::{POOL, pick_page};
 use crate::generate::entries::RIGHTS;
 use crate::hart::Hart;
 use crate::holdable::mask;
@@ -11,11 +12,11 @@ use crate::sv39::PAGE;
 
 const ALL_RIGHTS: u8 = 7;
 
-pub fn fill(random: &mut Random, hart: &mut Hart, tables: &Tables, pages: &[u64]) {
+pub fn fill(random: &mut Random, hart: &mut Hart, tables: &Tables, pages: &[u64; POOL]) {
     (hart.pmpcfg, hart.pmpaddr) = ([0; 16], [0; 16]);
     for _ in 0..random.pick(&[0, 1, 1, 2, 3]) {
         let entry = 1 + random.index(10);
-        let page = random.pick(pages);
+        let page = pick_page(random, pages);
         let place = random_place(random, tables, page);
         cover(random, hart, entry, place);
     }

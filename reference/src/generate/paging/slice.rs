@@ -13,14 +13,14 @@ pub fn slice(random: &mut Random, tables: Tables, pages: &[u64]) -> (u64, Vec<u6
         0 => return (unlawful_base(random, length as u64), words),
         // The end is missing, at times all.
         1 => words.truncate(random.index(length)),
-        2..=4 => words.truncate(between.unwrap_or(length)),
+        2..=5 => words.truncate(between.unwrap_or(length)),
         // The start is missing.
-        5 => {
+        6 => {
             let missing = random.index(length);
             return (origin + 8 * missing as u64, words.split_off(missing));
         }
         // Words before the tables.
-        6 | 7 if origin > 0 => {
+        7 | 8 if origin > 0 => {
             let more = random.below(8);
             let before = (0..more).map(|_| random.telling_word());
             return (origin - 8 * more, before.chain(words).collect());
