@@ -19,7 +19,7 @@ pub mod mask {
     pub const PMPCFG: u8 = 0x9F;
     pub const PMPADDR: u64 = (1 << 54) - 1;
     /// MODE 0 or 8, and PPN.
-    pub const SATP: u64 = 1 << 63 | (1 << 44) - 1;
+    pub const SATP: u64 = 1 << 63 | ((1 << 44) - 1);
 
     /// What the saved text has room for.
     pub mod text {

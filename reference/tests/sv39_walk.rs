@@ -140,17 +140,20 @@ fn accessed_and_dirty_are_never_set_for_the_program() {
     }
 }
 
-/// The root may be any page; ASID is no part of satp, and MODE 0 does not translate.
+/// The root may be any page, and MODE 0 does not translate.
 #[test]
 fn the_root_is_where_satp_says() {
     let words = one_page(entry(0x9000, RWX));
     let hart = translating(SUPERVISOR);
-    let middle = Hart { satp: satp::SV39 << 60 | (BASE >> 12) + 1, ..hart };
+    let middle = Hart { satp: satp::SV39 << 60 | ((BASE >> 12) + 1), ..hart };
     let memory = Memory { words: &words, base: BASE };
-    let found = middle.walk(memory, SUPERVISOR, Access::Load, 0x5678);
-    assert_eq!(found, Err(PAGE_FAULT));
     let found = middle.walk(memory, SUPERVISOR, Access::Load, 0x678);
     assert_eq!(found, Err(PAGE_FAULT), "the last table's page would be one of 2 MiB");
+    let last = Hart { satp: satp::SV39 << 60 | ((BASE >> 12) + 2), ..hart };
+    let large = one_page(entry(0x4000_0000, RWX));
+    let memory = Memory { words: &large, base: BASE };
+    let found = last.walk(memory, SUPERVISOR, Access::Load, 0x1234_5678);
+    assert_eq!(found, Ok(0x5234_5678), "the last table's page is one of 1 GiB");
     for mode in [USER, SUPERVISOR] {
         assert!(hart.is_translated(mode));
         assert!(!Hart { satp: hart.satp & satp::PPN, ..hart }.is_translated(mode));

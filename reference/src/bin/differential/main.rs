@@ -5,7 +5,8 @@
 //! [queries=N] [texts=N] [calls=N] [paging=N]`: numbers are decimal; one walk is every CSR number in
 //! every mode by every operation with all else that its access hangs on, every choice
 //! that step 7 can have to make, every shape of a NAPOT register, every setting listed
-//! for the boundaries of a map, every map of a few ranges over a few bytes, every bit of
+//! for the boundaries of a map, every map of a few ranges over a few bytes, the bits of a
+//! page-table entry at every level by every kind of access, every bit of
 //! every word of a state and every configuration byte, every place of a text with
 //! telling bytes, and every length of a short run and its answers. Should the product
 //! end the program, `loud` tells the case, and `only` what it was lent.
@@ -31,6 +32,7 @@ mod classes;
 mod compare;
 mod deciders;
 mod diagnosis;
+mod entries;
 mod held;
 mod interrupts;
 mod lengths;
@@ -89,6 +91,7 @@ fn compare_all(sizes: &Sizes) -> Result<String, Difference> {
     let trailing = napot::walk(sizes)?;
     let judged = boundaries::walk(sizes)?;
     let narrow = narrow::walk(sizes)?;
+    let entries = entries::walk(sizes)?;
     let held = held::walk(sizes)?;
     let spelled = texts::walk(sizes)?;
     let lengths = lengths::walk(sizes)?;
@@ -105,6 +108,7 @@ fn compare_all(sizes: &Sizes) -> Result<String, Difference> {
     Ok(format!(
         "CSR walks of {reasons}, interrupt walks of {walk_orders}, NAPOT walks of {trailing}, \
          boundary walks of {judged}, walks over narrow maps, each of {narrow}, \
+         walks over page-table entries of {entries}, \
          {held} states with one word changed, {spelled} texts with one byte changed, \
          {lengths} runs of any lengths, {} random steps with {step_telling}, \
          {} runs of {run_steps} steps with {run_telling}, \

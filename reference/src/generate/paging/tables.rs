@@ -70,8 +70,8 @@ impl Tables {
     }
 
     fn fill(&mut self, random: &mut Random) {
-        for level in 0..3 {
-            for table in OF_LEVEL[level] {
+        for (level, tables) in OF_LEVEL.into_iter().enumerate() {
+            for table in tables {
                 for number in self.numbers[level] {
                     let entry = self.entry(random, level);
                     let offset = self.place(table) - self.origin;
