@@ -45,6 +45,7 @@ pub struct Diagnosis {
     /// The mode of the hart, and the one that the access is judged in.
     pub mode: u64,
     pub effective: u64,
+    pub address: u64,
     /// In how many parts it is, and in which it ends.
     pub parts: u64,
     pub part: u64,
@@ -78,7 +79,8 @@ impl Diagnosis {
             Walker { hart: &hart, ..walker }.end(address, size).2 != end
         };
         let (by_sum, by_mxr) = (without(status::SUM), without(status::MXR));
-        Some(Diagnosis { access, mode: hart.mode, effective, parts, part, end, by_sum, by_mxr })
+        let mode = hart.mode;
+        Some(Diagnosis { access, mode, effective, address, parts, part, end, by_sum, by_mxr })
     }
 
     /// The first two words of the answer.

@@ -8,7 +8,7 @@ use crate::classes::{Class, Tally};
 use crate::diagnosis::{Diagnosis, End, Flaw};
 use crate::report::Difference;
 
-const CLASSES: [Class<Diagnosis>; 42] = [
+const CLASSES: [Class<Diagnosis>; 45] = [
     class("translated", 2, Diagnosis::is_translated),
     class("refused 13", 50, |case| case.end == End::Refused),
     class("not translated", 20, |case| case.end == End::Untranslated),
@@ -45,6 +45,9 @@ const CLASSES: [Class<Diagnosis>; 42] = [
         in_second(case) && case.end == End::OutsideSlice
     }),
     class("denied itself in part two", 600, |case| in_second(case) && case.end == End::Denied),
+    class("over the end of the addresses", 200, |case| is_split(case) && case.address > !0 << 12),
+    class("over an end of the hole", 200, |case| is_split(case) && at_hole(case.address)),
+    class("with a fault in part two there", 800, |case| in_second(case) && at_hole(case.address)),
     class("granted or not by SUM", 100, |case| case.by_sum),
     class("by MXR", 200, |case| case.by_mxr),
     class("fetches granted", 50, |case| granted(case, Access::Fetch)),
@@ -71,6 +74,12 @@ fn flaw(case: &Diagnosis, flaw: Flaw) -> bool {
 
 fn is_split(case: &Diagnosis) -> bool {
     case.parts == 2
+}
+
+/// Whether an access in two parts has one in the hole between canonical addresses.
+fn at_hole(address: u64) -> bool {
+    let second = (address | 0xFFF).wrapping_add(1);
+    matches!(second, 0x40_0000_0000 | 0xFFFF_FFC0_0000_0000)
 }
 
 fn in_second(case: &Diagnosis) -> bool {

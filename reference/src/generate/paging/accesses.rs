@@ -70,9 +70,9 @@ impl Paging {
         let page = pick_page(random, &self.pages);
         match random.below(24) {
             0 => page ^ 1 << (39 + random.below(25)),
-            1 => random.pick(&[1u64 << 38, !0 << 38, 0]).wrapping_sub(before),
-            2..=14 => page.wrapping_add(PAGE).wrapping_sub(before),
-            15..=17 => page.wrapping_add(random.below(16)).wrapping_sub(4),
+            1 | 2 => random.pick(&[1u64 << 38, !0 << 38, 0]).wrapping_sub(before),
+            3..=15 => page.wrapping_add(PAGE).wrapping_sub(before),
+            16..=18 => page.wrapping_add(random.below(16)).wrapping_sub(4),
             _ => page + random.below(PAGE),
         }
     }
