@@ -95,7 +95,7 @@ fn access(random: &mut Random, mut case: u64) -> (Lent, [u64; STEP_WORDS]) {
         (WHOLE ^ 1 << (10 + next(54)), SUPERVISOR, random.bits(status::SUM | status::MXR))
     } else {
         let mode = [USER, SUPERVISOR][next(2) as usize];
-        let bits = next(2) * status::SUM | next(2) * status::MXR;
+        let bits = [0, status::SUM][next(2) as usize] | [0, status::MXR][next(2) as usize];
         (FRAME >> 2 | next(256) | random.below(4) << 8, mode, bits)
     };
     let address = PAGE * random.below(1 << 26) + 8 * random.below(512);
