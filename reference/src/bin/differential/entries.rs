@@ -114,7 +114,7 @@ fn hart(random: &mut Random, kind: u64, mode: u64, bits: u64, address: u64) -> H
     let kept = hart.mstatus & !(status::SUM | status::MXR);
     let mstatus = status::with(status::with_mpp(kept | bits, mode), status::MPRV, by_mpp);
     let mode = if by_mpp { random.pick(&[USER, SUPERVISOR, MACHINE]) } else { mode };
-    let satp = satp::SV39 << satp::MODE_SHIFT | BASE / PAGE;
+    let satp = satp::SV39 << satp::MODE_SHIFT | BASE >> 12;
     let mut hart = Hart { mode, mstatus, satp, pc: address, pmpcfg: [0; 16], ..hart };
     let entry = random.index(16);
     (hart.pmpcfg[entry], hart.pmpaddr[entry]) = (0x1F, mask::PMPADDR);
