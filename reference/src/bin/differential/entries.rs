@@ -95,7 +95,7 @@ fn access(random: &mut Random, mut case: u64) -> (Lent, [u64; STEP_WORDS]) {
         (WHOLE ^ 1 << (10 + next(54)), SUPERVISOR, random.bits(status::SUM | status::MXR))
     } else {
         let mode = [USER, SUPERVISOR][next(2) as usize];
-        let bits = next(2) * status::SUM | next(2) * status::MXR;
+        let bits = [0, status::SUM][next(2) as usize] | [0, status::MXR][next(2) as usize];
         (FRAME >> 2 | next(256) | random.below(4) << 8, mode, bits)
     };
     let address = PAGE * random.below(1 << 26) + 8 * random.below(512);
@@ -114,7 +114,7 @@ fn hart(random: &mut Random, kind: u64, mode: u64, bits: u64, address: u64) -> H
     let kept = hart.mstatus & !(status::SUM | status::MXR);
     let mstatus = status::with(status::with_mpp(kept | bits, mode), status::MPRV, by_mpp);
     let mode = if by_mpp { random.pick(&[USER, SUPERVISOR, MACHINE]) } else { mode };
-    let satp = satp::SV39 << satp::MODE_SHIFT | BASE / PAGE;
+    let satp = satp::SV39 << satp::MODE_SHIFT | BASE >> 12;
     let mut hart = Hart { mode, mstatus, satp, pc: address, pmpcfg: [0; 16], ..hart };
     let entry = random.index(16);
     (hart.pmpcfg[entry], hart.pmpaddr[entry]) = (0x1F, mask::PMPADDR);
