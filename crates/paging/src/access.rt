@@ -12,7 +12,7 @@ use protection::Pmp;
 ghost use mathlib.Core.Path.{_≡_};
 ghost use Prim.Native.Nat.{_≤_};
 ghost use Rattle.paging.specs.Memory.{memoryAt};
-ghost use Rattle.paging.specs.Access.{pageFaultCause, translated, byRule, firstPart, located, partReached, partsReached, reached};
+ghost use Rattle.paging.specs.Access.{pageFaultCause, translated, byRule, firstPart, partReached, partsReached, reached};
 
 fn page_fault_cause(access: Access) -> u64
     ensures { λ r. ⌜ r ≡ pageFaultCause access ⌝ }
@@ -47,18 +47,7 @@ fn by_rule(tval: u64, decision: Decision) -> Reached
     }
 }
 
-// The physical address of a virtual one; without translation they are the same.
-fn locate(pmp: Pmp, memory: &[u64], base: u64, context: Context, address: u64) -> Walked
-    ensures { λ r. ⌜ r ≡ located pmp (memoryAt (now (memory .entry)) base) context address ⌝ }
-{
-    if is_translated(context) {
-        walk(pmp, memory, base, context, address)
-    } else {
-        Walked::At(address)
-    }
-}
-
-// An access that crosses no boundary, of any number of bytes.
+// A translated access that crosses no boundary, of any number of bytes.
 fn reach_part(
     pmp: Pmp,
     memory: &[u64],
@@ -71,7 +60,7 @@ fn reach_part(
 {
     let mode = context.mode;
     let access = context.access;
-    match locate(pmp, memory, base, context, address) {
+    match walk(pmp, memory, base, context, address) {
         Walked::At(place) => {
             let cfgs = pmp.cfgs;
             let addrs = pmp.addrs;
@@ -85,20 +74,16 @@ fn reach_part(
     }
 }
 
-// The bytes of an access before the next boundary of 4,096; one that is not translated heeds none.
-fn first_part(context: Context, address: u64, size: u64) -> u64
-    ensures { λ r. ⌜ r ≡ firstPart context address size ⌝ }
+// The bytes of an access before the next boundary of 4,096.
+fn first_part(address: u64, size: u64) -> u64
+    ensures { λ r. ⌜ r ≡ firstPart address size ⌝ }
     ensures { λ r. ⌜ r ≤ size ⌝ }
 {
     let room = 4096 - address % 4096;
-    if is_translated(context) & (room < size) {
-        room
-    } else {
-        size
-    }
+    if room < size { room } else { size }
 }
 
-// An access in its parts, of which the first has so many bytes: the first fault wins.
+// A translated access in its parts, of which the first has so many bytes: the first fault wins.
 fn reach_parts(
     pmp: Pmp,
     memory: &[u64],
@@ -151,6 +136,16 @@ pub fn reach(
     if !pmp::is_size(size) {
         return Reached::Refused(1);
     }
-    let first = first_part(context, address, size);
+    if !is_translated(context) {
+        let cfgs = pmp.cfgs;
+        let addrs = pmp.addrs;
+        let mode = context.mode;
+        let access = context.access;
+        return by_rule(
+            address,
+            pmp::byte_rule(cfgs, addrs, mode, access, address, size),
+        );
+    }
+    let first = first_part(address, size);
     reach_parts(pmp, memory, base, context, first, address, size)
 }

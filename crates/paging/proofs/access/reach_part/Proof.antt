@@ -9,19 +9,19 @@ unfolding partReached
 returns c =
     let r = c .before in
     let p = r .before .before .before .before in
-    rw (← (p .before .before .locate .ensures), p .place .given .1, ← (r .byte-rule .ensures)) (c .by-rule .ensures)
+    rw (← (p .before .before .walk .ensures), p .place .given .1, ← (r .byte-rule .ensures)) (c .by-rule .ensures)
 
 returns-2 : tie.Need-returns-2
 unfolding partReached
 returns-2 c =
     let e = c .before in
-    rw (← (e .before .before .locate .ensures), e .enum-told .given .1, c .page-fault-cause .ensures)
+    rw (← (e .before .before .walk .ensures), e .enum-told .given .1, c .page-fault-cause .ensures)
 
 returns-3 : tie.Need-returns-3
 unfolding partReached
 returns-3 c =
     let e = c .before .before in
-    rw (← (e .before .before .locate .ensures), e .entry .given .1, c .fault-cause .ensures)
+    rw (← (e .before .before .walk .ensures), e .entry .given .1, c .fault-cause .ensures)
 
 pub reach-part-spec : {M : Type 1} → statement M
 reach-part-spec =
