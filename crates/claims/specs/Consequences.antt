@@ -57,6 +57,7 @@ use Rattle.hart.specs.Steps.{hartWith, handedBack, stepped}
 use Rattle.hart.specs.Queries.{queryAnswer}
 use Rattle.hart.specs.Saved.{textFor}
 use Rattle.claims.specs.InterruptOrder.{TakesFirst}
+use Rattle.claims.specs.Refusals.{memoryRefusal}
 use Rattle.claims.specs.SavedLines.{keyed, keyedText, resetLines, joined}
 
 -- ---- registers of one value
@@ -174,6 +175,25 @@ pub record OneAccess (h : Hart) (map : Map) (access : Access) (cause address siz
       ((ruleOn h access address size ≡ Decision.Granted decider) × (after ≡ handedBack h map (Granted decider)))
       ⊎ ((ruleOn h access address size ≡ Decision.Fault cause decider) × TrapsWith h map cause address decider after)
 
+-- 02, [8]: "Effective mode M is untranslated", and so is all with another MODE than 8, bits 63:60 of satp
+abbrev pub untranslated : Hart → Access → Bool
+untranslated h access = isMachine (effectiveMode (h .state .registers) access) || not (eqb (h .state .satp / 2 ^ 60) 8)
+
+-- "Causes 12, 13, 15"
+abbrev pub pageCauseFor : Access → ℕ
+pageCauseFor Fetch = 12
+pageCauseFor Load = 13
+pageCauseFor Store = 15
+
+-- granted, and nothing changed; or a trap with the access fault or the page fault of its kind
+pub record AccessAnswered (h : Hart) (map : Map) (access : Access) (after : Stepped) : Type 0 where
+  pub decider : ℕ
+  pub known : decider ≤ 16
+  pub cause : ℕ
+  pub tval : ℕ
+  pub kind : (cause ≡ causeFor access) ⊎ (cause ≡ pageCauseFor access)
+  pub decision : (after ≡ handedBack h map (Granted decider)) ⊎ TrapsWith h map cause tval decider after
+
 -- a trap tells no entry, and nothing is granted
 abbrev pub NoEntry : Answer → Type 0
 NoEntry Done = Unit {0}
@@ -251,13 +271,17 @@ pub record Consequences : Type 0 where
   -- 02, [2]: "first the takeable ones bound for M in 01's order, then those for S in that order"
   pub takes-first : (h : Hart) (map : Map) (m : Memory) → canHold (h .state) ≡ true → TakesFirst h map (stepped h map m (EventStep TakeInterrupt))
   -- "A misaligned load or store is one access (house). A granted access changes nothing." "Faults: fetch 1, load 5, store 7, tval the first byte's address."
-  pub load : (h : Hart) (map : Map) (m : Memory) (address size : ℕ) → canHold (h .state) ≡ true → isSize size ≡ true
-      → OneAccess h map Load 5 address size (stepped h map m (AccessStep Load address size))
-  pub store : (h : Hart) (map : Map) (m : Memory) (address size : ℕ) → canHold (h .state) ≡ true → isSize size ≡ true
-      → OneAccess h map Store 7 address size (stepped h map m (AccessStep Store address size))
+  -- So it is where nothing is translated, whatever memory is lent, if it can stand where it is said to
+  pub load : (h : Hart) (map : Map) (m : Memory) (address size : ℕ) → canHold (h .state) ≡ true → lawful m ≡ true
+      → untranslated h Load ≡ true → isSize size ≡ true → OneAccess h map Load 5 address size (stepped h map m (AccessStep Load address size))
+  pub store : (h : Hart) (map : Map) (m : Memory) (address size : ℕ) → canHold (h .state) ≡ true → lawful m ≡ true
+      → untranslated h Store ≡ true → isSize size ≡ true → OneAccess h map Store 7 address size (stepped h map m (AccessStep Store address size))
   -- "fetch of 4 bytes at pc", "arguments not named are ignored"
-  pub fetch : (h : Hart) (map : Map) (m : Memory) (a b : ℕ) → canHold (h .state) ≡ true
+  pub fetch : (h : Hart) (map : Map) (m : Memory) (a b : ℕ) → canHold (h .state) ≡ true → lawful m ≡ true → untranslated h Fetch ≡ true
       → OneAccess h map Fetch 1 (h .state .registers .pc) 4 (stepped h map m (AccessStep Fetch a b))
+  -- 02, [8]: translated or not, an access that the table of refusals does not refuse is granted and changes nothing, or traps with one of two causes
+  pub access-answers : (h : Hart) (map : Map) (m : Memory) (access : Access) (address size : ℕ) → canHold (h .state) ≡ true
+      → memoryRefusal m access size ≡ nothing → AccessAnswered h map access (stepped h map m (AccessStep access address size))
   -- 02, [5]: a trap that comes from no access has none; step 7 and all others grant nothing
   pub no-access : (h : Hart) (map : Map) (m : Memory) (step : Step) → isAccess step ≡ false → NoEntry (stepped h map m step .answer)
   -- "Any byte at or above 2^56: access fault in every mode (house)"; [5]: "for a byte past memory, none". "Else the lowest entry matching any byte

@@ -46,8 +46,8 @@ sizeRefusal Load size = cond (sizeNamed size) none (some 1)
 sizeRefusal Store size = cond (sizeNamed size) none (some 1)
 
 -- 13, before 1: steps 14 to 16 are lent words at an address that is no multiple of 8, or that with 8 added for each word is above 2^56
-abbrev pub accessRefusal : Memory → Access → ℕ → Option ℕ
-accessRefusal m access size =
+abbrev pub memoryRefusal : Memory → Access → ℕ → Option ℕ
+memoryRefusal m access size =
     cond (eqb (m .base % 8) 0 && leb (m .base + 8 * length (m .words)) (2 ^ 56)) (sizeRefusal access size) (some 13)
 
 -- 2: raise cause above 7; lines outside 0xA88
@@ -67,7 +67,7 @@ eventRefusal (Elapsed cycles retired) = none
 abbrev pub argumentRefusal : Memory → Step → Option ℕ
 argumentRefusal m Reset = none
 argumentRefusal m (Csr op number operand) = cond (ltb 4095 number) (some 2) none
-argumentRefusal m (AccessStep access address size) = accessRefusal m access size
+argumentRefusal m (AccessStep access address size) = memoryRefusal m access size
 argumentRefusal m (EventStep event) = eventRefusal event
 
 -- 3 before 1, 2 and 13: the state given is not one a hart can hold; step 0 is never refused

@@ -11,4 +11,3 @@ tegrwyllt-step-spec =
     tie.close
     (tie.spec (λ c. search needs) (λ c κs. search needs) (λ c. search needs) (λ c. search needs) (λ c. search needs) returns)
 
--- 23616
