@@ -137,13 +137,7 @@ fn run_steps(
 
 // Runs the steps that the numbers name, three for each, on the words of a hart, and writes their answers, four words each, from the front of a slice, as
 // far as it goes. Gives whether the map has to be compiled anew. Where the words are not 42, or three numbers name no step, nothing is done.
-pub fn run(
-    words: &mut [u64],
-    memory: &[u64],
-    base: u64,
-    steps: &[u64],
-    answers: &mut [u64],
-) -> bool
+pub fn run(words: &mut [u64], memory: &[u64], base: u64, steps: &[u64], answers: &mut [u64]) -> bool
     ensures { λ r. ⌜ r ≡ ran (now (words .entry)) (memoryAt (now (memory .entry)) base) (now (steps .entry)) (now (answers .entry)) .remap ⌝ }
     ensures { λ _. ⌜ now (words .exit) ≡ ran (now (words .entry)) (memoryAt (now (memory .entry)) base) (now (steps .entry)) (now (answers .entry)) .words ⌝ }
     ensures { λ _. ⌜ now (answers .exit) ≡ ran (now (words .entry)) (memoryAt (now (memory .entry)) base) (now (steps .entry)) (now (answers .entry)) .answers ⌝ }

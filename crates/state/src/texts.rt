@@ -20,8 +20,7 @@ pub fn has_text(state: State) -> bool
 {
     let registers = state.registers;
     (state.satp == 0)
-        & (!(registers.mstatus / SUM % 2 == 1)
-            & (registers.medeleg & MEDELEG == registers.medeleg))
+        & (!(registers.mstatus / SUM % 2 == 1) & (registers.medeleg & MEDELEG == registers.medeleg))
 }
 
 fn copy_front(from: &[u64], to: &mut [u64])

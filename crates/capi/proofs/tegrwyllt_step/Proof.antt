@@ -10,4 +10,3 @@ pub tegrwyllt-step-spec : {M : Type 1} → statement M
 tegrwyllt-step-spec =
     tie.close
     (tie.spec (λ c. search needs) (λ c κs. search needs) (λ c. search needs) (λ c. search needs) (λ c. search needs) returns)
-
