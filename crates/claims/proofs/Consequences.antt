@@ -21,7 +21,7 @@ use Rattle.hart.specs.Steps.{hartWith}
 use Rattle.hart.specs.Saved.{textFor}
 use Rattle.claims.specs.SavedLines.{keyed, keyedText, resetLines, joined}
 use Rattle.claims.specs.Consequences.{LowestOwner, Consequences}
-use Rattle.claims.proofs.OneValue.{zero-step, zero-readable, misa-step, fixed-step, fixed-writable, lowest-first, config-steps}
+use Rattle.claims.proofs.OneValue.{zero-step, zero-readable, misa-step, fixed-step, fixed-writable, satp-illegal, satp-step, lowest-first, config-steps}
 use Rattle.claims.proofs.Counting.{mcycle-left, minstret-left, elapsed-counts}
 use Rattle.claims.proofs.InterruptOrder.{takes-first}
 use Rattle.claims.proofs.OneAccess.{one-load, one-store, one-fetch, access-answered}
@@ -69,6 +69,8 @@ consequences =
       config-steps = config-steps;
       ignores-writes = fixed-step;
       writable = fixed-writable;
+      satp-illegal = satp-illegal;
+      satp-step = satp-step;
       elapsed-counts = elapsed-counts;
       mcycle-left = mcycle-left;
       minstret-left = minstret-left;

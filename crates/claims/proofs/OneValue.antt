@@ -1,4 +1,4 @@
--- Registers that read one value and ignore writes: any CSR step on one, where it is not illegal. What pmpcfg0 and pmpcfg2 read. Assumes nothing.
+-- Registers that read one value and ignore writes: any CSR step on one, where it is not illegal. Steps on satp. What pmpcfg0 and pmpcfg2 read. Assumes nothing.
 use Prim.Native.Nat.{ℕ, suc, _+_, _-_, _*_, _/_, _%_, _^_}
 use mathlib.Core.Path.{_≡_, refl, sym, ap, _∙_}
 use mathlib.Core.Bool.{Bool, true, false, not, _&&_, _||_, false≢true, and-false, or-false}
@@ -15,6 +15,7 @@ use Rattle.pmp.proofs.SearchLaws.{every-passes}
 use Rattle.steps.specs.declared.Operation.{Operation}
 use Rattle.steps.specs.declared.Operation.the-variants.{Read}
 use Rattle.steps.specs.declared.Step.the-variants.{Csr}
+use Rattle.steps.specs.declared.Answer.the-variants.{DoneValue}
 use Rattle.registers.specs.declared.Registers.{Registers}
 use Rattle.registers.specs.Update.{withFlow}
 use Rattle.protection.specs.Configs.{packed}
@@ -27,9 +28,9 @@ use Rattle.csr.specs.Show.{registerRead}
 use Rattle.csr.specs.Store.{registersWritten}
 use Rattle.csr.specs.Operate.{registersOperated}
 use Rattle.map.specs.declared.Map.{Map}
-use Rattle.engine.specs.Effects.{csrStep, stepRule}
+use Rattle.engine.specs.Effects.{withSatp, satpOperated, csrStep, stepRule}
 use Rattle.hart.specs.declared.Hart.{Hart}
-use Rattle.hart.specs.Steps.{stepped}
+use Rattle.hart.specs.Steps.{hartWith, handedBack, stepped}
 use Rattle.claims.specs.Consequences.{listed, zeroNumbers, readsZero, fixedNumbers, ignoresWrites, movedOn}
 
 -- ---- numbers in ranges: what computes to true at each of them holds of any
@@ -139,6 +140,19 @@ fixed-writable r op n p =
     let v = neither (readOnly n) (eqb n 0x180 || between 0xC00 0xC1F n) (not-true _ (w .1)) in
     let u = neither (eqb n 0x180) (between 0xC00 0xC1F n) (v .1) in
     rw (w .0, v .0, u .0, u .1, and-false (attemptsWrite op), or-false (ltb (r .mode) (n / 256 % 4)))
+
+-- ---- satp
+
+pub satp-illegal : (r : Registers) (op : Operation) → illegal r op 0x180 ≡ (ltb (r .mode) 1 || (eqb (r .mode) 1 && testBit (r .mstatus) 20))
+unfolding illegal present
+satp-illegal r op = rw (and-false (attemptsWrite op), or-false (eqb (r .mode) 1 && testBit (r .mstatus) 20))
+
+pub satp-step : (h : Hart) (map : Map) (m : Memory) (op : Operation) (operand : ℕ) → canHold (h .state) ≡ true
+    → illegal (h .state .registers) op 0x180 ≡ false
+    → stepped h map m (Csr op 0x180 operand)
+    ≡ handedBack (hartWith (withSatp (movedOn h map 0 .hart .state) (satpOperated (h .state .satp) op operand))) map (DoneValue (h .state .satp))
+unfolding stepped stepRule csrStep
+satp-step h map m op operand held legal = rw (held, legal, same-pmp-refl (h .state .pmp))
 
 -- ---- pmpcfg0 and pmpcfg2
 

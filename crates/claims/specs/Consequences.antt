@@ -50,7 +50,7 @@ use Rattle.map.specs.Ranges.{IsMap}
 use Rattle.map.specs.Boundaries.{Boundaries}
 use Rattle.map.specs.Compiled.{compiled}
 use Rattle.text.specs.Text.{textOf, readAs, readText}
-use Rattle.engine.specs.Effects.{withRegisters}
+use Rattle.engine.specs.Effects.{withRegisters, withSatp, satpOperated}
 use Rattle.hart.specs.declared.Hart.{Hart}
 use Rattle.hart.specs.declared.Stepped.{Stepped}
 use Rattle.hart.specs.Steps.{hartWith, handedBack, stepped}
@@ -263,6 +263,13 @@ pub record Consequences : Type 0 where
       → stepped h map m (Csr op number operand) ≡ movedOn h map (registerRead (h .state .registers) number)
   pub writable : (r : Registers) (op : Operation) (number : ℕ) → ignoresWrites number ≡ true
       → illegal r op number ≡ ltb (r .mode) (number / 256 % 4)
+  -- 02, [8]: 180 is illegal below S, and in S with TVM=1, bit 20 of mstatus; else a step on it is done with the old value, moves pc on and stores, and nothing
+  -- else changes. What is stored, by numbers: Worked
+  pub satp-illegal : (r : Registers) (op : Operation) → illegal r op 0x180 ≡ (ltb (r .mode) 1 || (eqb (r .mode) 1 && testBit (r .mstatus) 20))
+  pub satp-step : (h : Hart) (map : Map) (m : Memory) (op : Operation) (operand : ℕ) → canHold (h .state) ≡ true
+      → illegal (h .state .registers) op 0x180 ≡ false
+      → stepped h map m (Csr op 0x180 operand)
+      ≡ handedBack (hartWith (withSatp (movedOn h map 0 .hart .state) (satpOperated (h .state .satp) op operand))) map (DoneValue (h .state .satp))
   -- "Elapsed adds a to mcycle unless inhibit bit 0, b to minstret unless bit 2; both counters wrap at 2^64. No other step counts."
   pub elapsed-counts : (h : Hart) (map : Map) (m : Memory) (cycles retired : ℕ) → canHold (h .state) ≡ true
       → stepped h map m (EventStep (Elapsed cycles retired)) ≡ handedBack (hartWith (elapsedBy h cycles retired)) map Done
