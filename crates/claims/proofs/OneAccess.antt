@@ -1,9 +1,10 @@
 -- An access that is not translated, aligned or not, is decided by the byte rule on all its bytes at once; any access is granted or traps. Assumes nothing.
-use Prim.Native.Nat.{ℕ}
+use Prim.Native.Nat.{ℕ, _+_, _*_, _/_, _%_, _^_}
 use mathlib.Core.Path.{_≡_, refl, sym, ap, _∙_}
 use mathlib.Core.Bool.{Bool, true, false, cond, not, _||_, false≢true}
 use mathlib.Core.Logic.{_⊎_, inl, inr}
 use mathlib.Core.Option.{Option, none as nothing, some, Option·none-ne-some}
+use native.Mathlib.Omega.{arith}
 use borrow.Author.Tests.{not-true}
 use lib.Dec.{eqb}
 use Rattle.pmp.specs.declared.Mode.{Mode}
@@ -28,8 +29,8 @@ use Rattle.protection.proofs.SameLaws.{same-pmp-refl}
 use Rattle.paging.specs.declared.Reached.{Reached}
 use Rattle.paging.specs.Satp.{satpMode}
 use Rattle.paging.specs.Memory.{Memory, lawful}
-use Rattle.paging.specs.Access.{pageFaultCause, translates, byRule, reached}
-use Rattle.paging.proofs.Answered.{Answered, grants as reach-grants, faults as reach-faults, reached-answered, reached-physical}
+use Rattle.paging.specs.Access.{pageFaultCause, translates, byRule, room, reached}
+use Rattle.paging.proofs.Answered.{Answered, grants as reach-grants, faults as reach-faults, page-faults, starts, reached-answered, reached-physical}
 use Rattle.state.specs.Hold.{canHold}
 use Rattle.trap.specs.Enter.{destination, entered, raisedBy}
 use Rattle.map.specs.declared.Map.{Map}
@@ -37,7 +38,7 @@ use Rattle.engine.specs.Effects.{withRegisters, accessDecided, contextOf, acces
 use Rattle.hart.specs.declared.Hart.{Hart}
 use Rattle.hart.specs.declared.Stepped.{Stepped}
 use Rattle.hart.specs.Steps.{hartWith, handedBack, withMap, stepped}
-use Rattle.claims.specs.Consequences.{causeFor, isMachine, ruleOn, untranslated, pageCauseFor, TrapsWith, OneAccess, AccessAnswered}
+use Rattle.claims.specs.Consequences.{causeFor, isMachine, ruleOn, untranslated, pageCauseFor, partStarts, TrapsWith, OneAccess, AccessAnswered, startOf}
 use Rattle.claims.specs.Refusals.{memoryRefusal}
 
 -- ---- an exception's entry writes its cause and trap value to the level that it goes to
@@ -126,27 +127,43 @@ module _ (h : Hart) (map : Map) where
   causes Load = (refl, refl)
   causes Store = (refl, refl)
 
-  answered : (access : Access) (after : Stepped) (d : Reached) → Answered access d → after ≡ withMap h map (accessDecided (h .state) d)
-      → AccessAnswered h map access after
-  answered access after _ (reach-grants entry b) e =
-      record { decider = entry; known = b; cause = causeFor access; tval = 0; kind = inl refl; decision = inl (granted-leaves after _ entry e refl) }
-  answered access after _ (reach-faults cause tval entry (inl k) c b) e =
+  -- the boundary behind an address
+  placed : (address tval : ℕ) → starts address tval → partStarts address tval
+  placed address tval (inl e) = inl e
+  placed address tval (inr e) =
+      let k : address + room address ≡ (address / 4096 + 1) * 4096 = omega arith in
+      inr (e ∙ ap (λ (n : ℕ). n % 2 ^ 64) k)
+
+  answered : (access : Access) (address : ℕ) (after : Stepped) (d : Reached) → Answered access (starts address) d → after ≡ withMap h map (accessDecided (h .state) d) → AccessAnswered h map access address after
+  answered access address after _ (reach-grants entry b) e =
       record {
         decider = entry;
         known = b;
-        cause = cause;
-        tval = tval;
-        kind = inl (k ∙ sym (causes access .0));
-        decision = inr (fault-traps after _ cause tval entry e refl);
+        cause = causeFor access;
+        tval = address;
+        kind = inl refl;
+        start = inl refl;
+        decision = inl (granted-leaves after _ entry e refl);
       }
-  answered access after _ (reach-faults cause tval entry (inr k) c b) e =
+  answered access address after _ (reach-faults tval entry a b) e =
       record {
         decider = entry;
         known = b;
-        cause = cause;
+        cause = faultCause access;
         tval = tval;
-        kind = inr (k ∙ sym (causes access .1));
-        decision = inr (fault-traps after _ cause tval entry e refl);
+        kind = inl (sym (causes access .0));
+        start = placed address tval a;
+        decision = inr (fault-traps after _ (faultCause access) tval entry e refl);
+      }
+  answered access address after _ (page-faults tval a) e =
+      record {
+        decider = 16;
+        known = omega arith;
+        cause = pageFaultCause access;
+        tval = tval;
+        kind = inr (sym (causes access .1), refl);
+        start = placed address tval a;
+        decision = inr (fault-traps after _ (pageFaultCause access) tval 16 e refl);
       }
 
   -- the table of refusals passes it: the memory stands where it can, and the size is one
@@ -159,11 +176,11 @@ module _ (h : Hart) (map : Map) where
   passed false b e = absurd (Option·none-ne-some 13 (sym e))
 
   at-answered : (m : Memory) (access : Access) (address size : ℕ) → table (lawful m) (isSize size) ≡ nothing
-      → (after : Stepped) → after ≡ withMap h map (accessAt (h .state) m access address size) → AccessAnswered h map access after
+      → (after : Stepped) → after ≡ withMap h map (accessAt (h .state) m access address size) → AccessAnswered h map access address after
   unfolding accessAt
   at-answered m access address size n after e =
       let k = passed (lawful m) (isSize size) n in
-      answered access after _ (reached-answered (h .state .pmp) m (contextOf (h .state) access) address size (k .0) (k .1)) e
+      answered access address after _ (reached-answered (h .state .pmp) m (contextOf (h .state) access) address size (k .0) (k .1)) e
 
 module _ (h : Hart) (map : Map) (m : Memory) (address size : ℕ) (held : canHold (h .state) ≡ true) where
   module _ (stands : lawful m ≡ true) where
@@ -180,20 +197,20 @@ module _ (h : Hart) (map : Map) (m : Memory) (address size : ℕ) (held : canHol
     unfolding stepped stepRule
     one-fetch physical = one-decision h map m Fetch (h .state .registers .pc) 4 stands physical refl _ (rw held)
 
-  fetch-answered : memoryRefusal m Fetch size ≡ nothing → AccessAnswered h map Fetch (stepped h map m (AccessStep Fetch address size))
+  fetch-answered : memoryRefusal m Fetch size ≡ nothing → AccessAnswered h map Fetch (h .state .registers .pc) (stepped h map m (AccessStep Fetch address size))
   unfolding stepped stepRule
   fetch-answered n = at-answered h map m Fetch (h .state .registers .pc) 4 n _ (rw held)
 
-  load-answered : memoryRefusal m Load size ≡ nothing → AccessAnswered h map Load (stepped h map m (AccessStep Load address size))
+  load-answered : memoryRefusal m Load size ≡ nothing → AccessAnswered h map Load address (stepped h map m (AccessStep Load address size))
   unfolding stepped stepRule
   load-answered n = at-answered h map m Load address size n _ (rw held)
 
-  store-answered : memoryRefusal m Store size ≡ nothing → AccessAnswered h map Store (stepped h map m (AccessStep Store address size))
+  store-answered : memoryRefusal m Store size ≡ nothing → AccessAnswered h map Store address (stepped h map m (AccessStep Store address size))
   unfolding stepped stepRule
   store-answered n = at-answered h map m Store address size n _ (rw held)
 
   pub access-answered : (access : Access) → memoryRefusal m access size ≡ nothing
-      → AccessAnswered h map access (stepped h map m (AccessStep access address size))
+      → AccessAnswered h map access (startOf h access address) (stepped h map m (AccessStep access address size))
   access-answered Fetch n = fetch-answered n
   access-answered Load n = load-answered n
   access-answered Store n = store-answered n

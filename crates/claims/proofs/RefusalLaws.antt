@@ -30,8 +30,8 @@ use Rattle.protection.proofs.SameLaws.{same-pmp-refl}
 use Rattle.paging.specs.declared.Context.{Context}
 use Rattle.paging.specs.declared.Reached.{Reached}
 use Rattle.paging.specs.Memory.{Memory, lawful}
-use Rattle.paging.specs.Access.{reached}
-use Rattle.paging.proofs.Answered.{Answered, grants as reach-grants, faults as reach-faults, reached-unlawful, reached-missized, reached-answered}
+use Rattle.paging.specs.Access.{pageFaultCause, reached}
+use Rattle.paging.proofs.Answered.{Answered, grants as reach-grants, faults as reach-faults, page-faults, reached-unlawful, reached-missized, reached-answered}
 use Rattle.state.specs.declared.State.{State}
 use Rattle.state.specs.Hold.{canHold}
 use Rattle.state.specs.Words.{textWords}
@@ -161,9 +161,10 @@ module _ (s : State) where
       go false false false true = refl
       go false false false false = refl
 
-  decided-refuses : (access : Access) (d : Reached) → Answered access d → Refuses s none (accessDecided s d)
+  decided-refuses : (access : Access) {Start : ℕ → Type 0} (d : Reached) → Answered access Start d → Refuses s none (accessDecided s d)
   decided-refuses access _ (reach-grants entry h) = refl
-  decided-refuses access _ (reach-faults cause tval entry k b h) = raised-quiet (s .registers) cause tval entry
+  decided-refuses access _ (reach-faults tval entry a h) = raised-quiet (s .registers) (faultCause access) tval entry
+  decided-refuses access _ (page-faults tval a) = raised-quiet (s .registers) (pageFaultCause access) tval noEntry
 
   module _ (m : Memory) where
     access-refuses : (access : Access) (address size : ℕ)

@@ -185,14 +185,25 @@ pageCauseFor Fetch = 12
 pageCauseFor Load = 13
 pageCauseFor Store = 15
 
--- granted, and nothing changed; or a trap with the access fault or the page fault of its kind
-pub record AccessAnswered (h : Hart) (map : Map) (access : Access) (after : Stepped) : Type 0 where
+-- "tval, at access faults too, is the virtual address": where the access starts, or the next boundary of 4,096 bytes, at which its second part does
+abbrev pub partStarts : ℕ → ℕ → Type 0
+partStarts address tval = (tval ≡ address) ⊎ (tval ≡ (address / 4096 + 1) * 4096 % 2 ^ 64)
+
+-- granted, and nothing changed; or a trap with the access fault of its kind, or with the page fault, which no entry decides
+pub record AccessAnswered (h : Hart) (map : Map) (access : Access) (address : ℕ) (after : Stepped) : Type 0 where
   pub decider : ℕ
   pub known : decider ≤ 16
   pub cause : ℕ
   pub tval : ℕ
-  pub kind : (cause ≡ causeFor access) ⊎ (cause ≡ pageCauseFor access)
+  pub kind : (cause ≡ causeFor access) ⊎ ((cause ≡ pageCauseFor access) × (decider ≡ 16))
+  pub start : partStarts address tval
   pub decision : (after ≡ handedBack h map (Granted decider)) ⊎ TrapsWith h map cause tval decider after
+
+-- where an access starts: a fetch at pc
+abbrev pub startOf : Hart → Access → ℕ → ℕ
+startOf h Fetch address = h .state .registers .pc
+startOf h Load address = address
+startOf h Store address = address
 
 -- a trap tells no entry, and nothing is granted
 abbrev pub NoEntry : Answer → Type 0
@@ -288,7 +299,7 @@ pub record Consequences : Type 0 where
       → OneAccess h map Fetch 1 (h .state .registers .pc) 4 (stepped h map m (AccessStep Fetch a b))
   -- 02, [8]: translated or not, an access that the table of refusals does not refuse is granted and changes nothing, or traps with one of two causes
   pub access-answers : (h : Hart) (map : Map) (m : Memory) (access : Access) (address size : ℕ) → canHold (h .state) ≡ true
-      → memoryRefusal m access size ≡ nothing → AccessAnswered h map access (stepped h map m (AccessStep access address size))
+      → memoryRefusal m access size ≡ nothing → AccessAnswered h map access (startOf h access address) (stepped h map m (AccessStep access address size))
   -- 02, [5]: a trap that comes from no access has none; step 7 and all others grant nothing
   pub no-access : (h : Hart) (map : Map) (m : Memory) (step : Step) → isAccess step ≡ false → NoEntry (stepped h map m step .answer)
   -- "Any byte at or above 2^56: access fault in every mode (house)"; [5]: "for a byte past memory, none". "Else the lowest entry matching any byte

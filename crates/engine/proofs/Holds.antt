@@ -9,7 +9,8 @@ use Rattle.bits.proofs.Conjunction.{both, by-test, choose}
 use Rattle.bits.proofs.FoldLaws.{fold-keeps}
 use Rattle.pmp.specs.declared.Access.{Access}
 use Rattle.pmp.specs.declared.Access.the-variants.{Fetch, Load, Store}
-use Rattle.pmp.specs.Rule.{isSize}
+use Rattle.pmp.specs.Number.{faultCause}
+use Rattle.pmp.specs.Rule.{none, isSize}
 use Rattle.steps.specs.declared.Operation.{Operation}
 use Rattle.steps.specs.declared.Step.{Step}
 use Rattle.steps.specs.declared.Step.the-variants.{Reset, Csr, Access as AccessStep, Event as EventStep}
@@ -25,9 +26,9 @@ use Rattle.paging.specs.declared.Context.{Context}
 use Rattle.paging.specs.declared.Reached.{Reached}
 use Rattle.paging.specs.Satp.{satpHoldable}
 use Rattle.paging.specs.Memory.{Memory, lawful}
-use Rattle.paging.specs.Access.{reached}
+use Rattle.paging.specs.Access.{pageFaultCause, reached}
 use Rattle.paging.proofs.SatpLaws.{satp-kept}
-use Rattle.paging.proofs.Answered.{Answered, grants, faults, reached-unlawful, reached-missized, reached-answered}
+use Rattle.paging.proofs.Answered.{Answered, grants, faults, page-faults, fault-bound, page-fault-bound, reached-unlawful, reached-missized, reached-answered}
 use Rattle.state.specs.declared.State.{State}
 use Rattle.state.specs.Hold.{canHold}
 use Rattle.state.proofs.Held.{hold, reset-holds}
@@ -117,10 +118,12 @@ module _ (s : State) (p : canHold s ≡ true) where
       (next-held (registersOperated (s .registers) op number operand (registerRead (s .registers) number))
       (registers-operated-kept (s .registers) registers-held op number operand (registerRead (s .registers) number)))))))
 
-  decided-holds : (access : Access) (d : Reached) → Answered access d → Holds (accessDecided s d)
+  decided-holds : (access : Access) {Start : ℕ → Type 0} (d : Reached) → Answered access Start d → Holds (accessDecided s d)
   decided-holds access _ (grants entry h) = p
-  decided-holds access _ (faults cause tval entry k b h) =
-      on-registers _ (raised-holdable (s .registers) registers-held cause tval entry (omega arith))
+  decided-holds access _ (faults tval entry a h) =
+      on-registers _ (raised-holdable (s .registers) registers-held (faultCause access) tval entry (omega (arith, fault-bound access)))
+  decided-holds access _ (page-faults tval a) =
+      on-registers _ (raised-holdable (s .registers) registers-held (pageFaultCause access) tval none (omega (arith, page-fault-bound access)))
 
   module _ (m : Memory) where
     access-holds : (access : Access) (address size : ℕ) → Holds (accessAt s m access address size)

@@ -1,12 +1,13 @@
 -- What an access comes to: refusal 13, refusal 1, or a grant or a fault with one of its kind's two causes, by an entry or none; and, untranslated, what the byte
 -- rule decides. Assumes nothing.
-use Prim.Native.Nat.{ℕ, zero, suc, _+_, _-_, _%_, _^_, _≤_}
-use mathlib.Core.Path.{_≡_, refl}
+use Prim.Native.Nat.{ℕ, zero, suc, _+_, _-_, _%_, _^_, _≤_, min}
+use mathlib.Core.Path.{_≡_, refl, ap, _∙_}
 use mathlib.Core.Bool.{Bool, true, false, cond}
 use mathlib.Core.Logic.{_⊎_, inl, inr}
+use native.Mathlib.Decide.{decLe}
 use native.Mathlib.Omega.{arith}
 use lib.Dec.{eqb}
-use borrow.Author.Tests.{eq-eqb}
+use borrow.Author.Tests.{eq-eqb, eqb-false}
 use Rattle.bits.proofs.Conjunction.{by-test}
 use Rattle.pmp.specs.declared.Mode.the-variants.{Supervisor}
 use Rattle.pmp.specs.declared.Access.{Access}
@@ -30,7 +31,7 @@ use Rattle.paging.specs.declared.Reached.the-variants.{Granted, Fault, R
 use Rattle.paging.specs.Memory.{Memory, lawful, hasWord, wordAt}
 use Rattle.paging.specs.Entry.{ppn, wellFormed, leaf, allows, reserved, physical, entrySays}
 use Rattle.paging.specs.Walk.{canonical, entryAddress, readBy, tableRead, wordSays, onward, foundAt, walkFrom, walked}
-use Rattle.paging.specs.Access.{pageFaultCause, translated, byRule, andThen, firstPart, located, decided, arrived, partReached, partsReached, reached}
+use Rattle.paging.specs.Access.{pageFaultCause, translated, byRule, andThen, room, firstPart, located, decided, arrived, partReached, partsReached, reached}
 
 -- ---- a walk is denied by an entry or none
 
@@ -94,49 +95,79 @@ module _ (p : Pmp) (m : Memory) (c : Context) (address : ℕ) where
 
 -- ---- a grant or a fault
 
-pub data Answered (access : Access) : Reached → Type 0 where
-  grants : (entry : ℕ) → entry ≤ none → Answered access (Granted entry)
-  faults : (cause tval entry : ℕ) → (cause ≡ faultCause access) ⊎ (cause ≡ pageFaultCause access) → cause ≤ 15 → entry ≤ none
-      → Answered access (Fault cause tval entry)
+-- a grant by an entry or none; or, with the trap value at one of these starts, an access fault by an entry or none, or a page fault by none
+pub data Answered (access : Access) (Start : ℕ → Type 0) : Reached → Type 0 where
+  grants : (entry : ℕ) → entry ≤ none → Answered access Start (Granted entry)
+  faults : (tval entry : ℕ) → Start tval → entry ≤ none → Answered access Start (Fault (faultCause access) tval entry)
+  page-faults : (tval : ℕ) → Start tval → Answered access Start (Fault (pageFaultCause access) tval none)
 
-fault-bound : (access : Access) → faultCause access ≤ 15
+-- no cause is above 15
+pub fault-bound : (access : Access) → faultCause access ≤ 15
 fault-bound Fetch = omega arith
 fault-bound Load = omega arith
 fault-bound Store = omega arith
 
-page-fault-bound : (access : Access) → pageFaultCause access ≤ 15
+pub page-fault-bound : (access : Access) → pageFaultCause access ≤ 15
 page-fault-bound Fetch = omega arith
 page-fault-bound Load = omega arith
 page-fault-bound Store = omega arith
 
-rule-answered : (access : Access) (tval : ℕ) (d : Decision) → GrantOrFault access d → Answered access (byRule tval d)
+rule-answered : (access : Access) (tval : ℕ) (d : Decision) → GrantOrFault access d → Answered access (λ t. t ≡ tval) (byRule tval d)
 rule-answered access tval _ (rule-grants entry n) = grants entry n
-rule-answered access tval _ (rule-faults entry n) = faults (faultCause access) tval entry (inl refl) (fault-bound access) n
+rule-answered access tval _ (rule-faults entry n) = faults tval entry refl n
 
-then-answered : (access : Access) (x y : Reached) → Answered access x → Answered access y → Answered access (andThen x y)
-then-answered access _ y (grants entry n) q = q
-then-answered access _ y (faults cause tval entry k b n) q = faults cause tval entry k b n
+-- of two parts, each with starts of its own
+then-answered : (access : Access) {S T R : ℕ → Type 0} (x y : Reached) → Answered access S x → Answered access T y → ((t : ℕ) → S t → R t)
+    → ((t : ℕ) → T t → R t) → Answered access R (andThen x y)
+then-answered access _ _ (grants entry n) (grants other k) s t = grants other k
+then-answered access _ _ (grants entry n) (faults tval other a k) s t = faults tval other (t tval a) k
+then-answered access _ _ (grants entry n) (page-faults tval a) s t = page-faults tval (t tval a)
+then-answered access _ y (faults tval entry a n) q s t = faults tval entry (s tval a) n
+then-answered access _ y (page-faults tval a) q s t = page-faults tval (s tval a)
+
+-- where the parts of an access start: the second at the next boundary
+abbrev pub starts : ℕ → ℕ → Type 0
+starts address tval = (tval ≡ address) ⊎ (tval ≡ (address + room address) % 2 ^ 64)
+
+-- a first part that is not all of the access ends at the boundary
+first-room : (c : Context) (address size : ℕ) → (firstPart c address size ≡ size → ⊥) → firstPart c address size ≡ room address
+first-room c address size n = go (translated c) n
+  where
+    go : (b : Bool) → (cond b (min size (room address)) size ≡ size → ⊥) → cond b (min size (room address)) size ≡ room address
+    go true k = at-room (decLe size (room address)) k
+      where
+        at-room : Dec (size ≤ room address) → (min size (room address) ≡ size → ⊥) → min size (room address) ≡ room address
+        at-room (yes l) x = absurd (x (omega arith))
+        at-room (no l) x = omega arith
+    go false k = absurd (k refl)
 
 module _ (p : Pmp) (m : Memory) (c : Context) where
-  arrived-answered : (address size : ℕ) (w : Walked) → EndsByEntry w → Answered (c .access) (arrived p m c address size w)
+  arrived-answered : (address size : ℕ) (w : Walked) → EndsByEntry w → Answered (c .access) (λ t. t ≡ address) (arrived p m c address size w)
   arrived-answered address size (At place) e =
       rule-answered (c .access) address _ (rule-answers (entrySpan (p .cfgs) (p .addrs)) (p .cfgs) (c .mode) (c .access) place size)
-  arrived-answered address size PageFault e =
-      faults (pageFaultCause (c .access)) address none (inr refl) (page-fault-bound (c .access)) (omega arith)
-  arrived-answered address size (AccessFault entry) e = faults (faultCause (c .access)) address entry (inl refl) (fault-bound (c .access)) e
+  arrived-answered address size PageFault e = page-faults address refl
+  arrived-answered address size (AccessFault entry) e = faults address entry refl e
 
-  part-answered : (address size : ℕ) → Answered (c .access) (partReached p m c address size)
+  part-answered : (address size : ℕ) → Answered (c .access) (λ t. t ≡ address) (partReached p m c address size)
   unfolding partReached
   part-answered address size = arrived-answered address size (located p m c address) (located-by-entry p m c address)
 
-  parts-answered : (first address size : ℕ) → Answered (c .access) (partsReached p m c first address size)
+  widened : (address : ℕ) (x : Reached) → Answered (c .access) (λ t. t ≡ address) x → Answered (c .access) (starts address) x
+  widened address _ (grants entry n) = grants entry n
+  widened address _ (faults tval entry a n) = faults tval entry (inl a) n
+  widened address _ (page-faults tval a) = page-faults tval (inl a)
+
+  parts-answered : (first address size : ℕ) → ((first ≡ size → ⊥) → first ≡ room address)
+      → Answered (c .access) (starts address) (partsReached p m c first address size)
   unfolding partsReached
-  parts-answered first address size =
+  parts-answered first address size ends =
       let next = (address + first) % 2 ^ 64 in
-      by-test (Answered (c .access)) (eqb first size) _ _ (λ t. part-answered address size)
+      by-test (Answered (c .access) (starts address)) (eqb first size) _ _
+      (λ t. widened address (partReached p m c address size) (part-answered address size))
       (λ t.
       then-answered (c .access) (partReached p m c address first) (partReached p m c next (size - first)) (part-answered address first)
-      (part-answered next (size - first)))
+      (part-answered next (size - first)) (λ v e. inl e)
+      (λ v e. inr (e ∙ ap (λ (k : ℕ). (address + k) % 2 ^ 64) (ends (eqb-false first size t)))))
 
   pub reached-unlawful : (address size : ℕ) → lawful m ≡ false → reached p m c address size ≡ Refused 13
   unfolding reached
@@ -147,9 +178,9 @@ module _ (p : Pmp) (m : Memory) (c : Context) where
   reached-missized address size l s = rw (l, s)
 
   pub reached-answered : (address size : ℕ) → lawful m ≡ true → isSize size ≡ true
-      → Answered (c .access) (reached p m c address size)
+      → Answered (c .access) (starts address) (reached p m c address size)
   unfolding reached
-  reached-answered address size l s = rw (l, s) (parts-answered (firstPart c address size) address size)
+  reached-answered address size l s = rw (l, s) (parts-answered (firstPart c address size) address size (first-room c address size))
 
   -- untranslated it is the decision on the address itself, refusal 1 too
   pub reached-physical : (address size : ℕ) → lawful m ≡ true → translated c ≡ false

@@ -138,6 +138,7 @@ settings =
     -- accesses: a grant, a page fault, a table that is denied, a page that is denied
     ∷ reaches (entry 0x12345 0xCF) Supervisor Load 0 (va 0 0 1 0x234) 8 (Granted 3)
     ∷ reaches (entry 0x12345 0xCF) User Store 0 (va 0 0 1 0x234) 8 (Fault 15 (va 0 0 1 0x234) none)
+    ∷ reaches (entry 0x12345 0xC7) Supervisor Fetch 0 (va 0 0 1 0) 4 (Fault 12 (va 0 0 1 0) none)
     ∷ reaches (entry 0x90000 0x01) User Fetch 0 (va 1 0 2 4) 4 (Fault 1 (va 1 0 2 4) 1)
     ∷ reaches (entry 0x12345 0xCF) Supervisor Store 0 (va 0 0 1 0x7FC) 8 (Fault 7 (va 0 0 1 0x7FC) 2)
     -- across a boundary each part keeps its own size: eight bytes would reach entry 0's. A boundary within a superpage counts
