@@ -30,7 +30,7 @@ use Rattle.paging.specs.declared.Reached.the-variants.{Granted, Fault, R
 use Rattle.paging.specs.Memory.{Memory, lawful, hasWord, wordAt}
 use Rattle.paging.specs.Entry.{ppn, wellFormed, leaf, allows, reserved, physical, entrySays}
 use Rattle.paging.specs.Walk.{canonical, entryAddress, readBy, tableRead, wordSays, onward, foundAt, walkFrom, walked}
-use Rattle.paging.specs.Access.{pageFaultCause, translated, byRule, andThen, firstPart, decided, arrived, partReached, partsReached, reached}
+use Rattle.paging.specs.Access.{pageFaultCause, translated, byRule, andThen, firstPart, located, decided, arrived, partReached, partsReached, reached}
 
 -- ---- a walk is denied by an entry or none
 
@@ -86,9 +86,11 @@ module _ (p : Pmp) (m : Memory) (c : Context) (address : ℕ) where
   walk-by-entry (suc level) table =
       onward-by-entry (walkFrom p m c address level) (foundAt p m c address level table) (walk-by-entry level) (found-by-entry level table)
 
-  walked-by-entry : EndsByEntry (walked p m c address)
-  unfolding walked
-  walked-by-entry = by-test EndsByEntry (canonical address) _ _ (λ t. walk-by-entry 3 (c .satp)) (λ t. tt)
+  located-by-entry : EndsByEntry (located p m c address)
+  unfolding located walked
+  located-by-entry =
+      by-test EndsByEntry (translated c) _ _
+      (λ t. by-test EndsByEntry (canonical address) _ _ (λ u. walk-by-entry 3 (c .satp)) (λ u. tt)) (λ t. tt)
 
 -- ---- a grant or a fault
 
@@ -125,7 +127,7 @@ module _ (p : Pmp) (m : Memory) (c : Context) where
 
   part-answered : (address size : ℕ) → Answered (c .access) (partReached p m c address size)
   unfolding partReached
-  part-answered address size = arrived-answered address size (walked p m c address) (walked-by-entry p m c address)
+  part-answered address size = arrived-answered address size (located p m c address) (located-by-entry p m c address)
 
   parts-answered : (first address size : ℕ) → Answered (c .access) (partsReached p m c first address size)
   unfolding partsReached
@@ -147,18 +149,14 @@ module _ (p : Pmp) (m : Memory) (c : Context) where
   pub reached-answered : (address size : ℕ) → lawful m ≡ true → isSize size ≡ true
       → Answered (c .access) (reached p m c address size)
   unfolding reached
-  reached-answered address size l s =
-      rw (l, s)
-      (by-test (Answered (c .access)) (translated c) _ _ (λ t. parts-answered (firstPart address size) address size)
-      (λ t.
-      rule-answered (c .access) address _ (rule-answers (entrySpan (p .cfgs) (p .addrs)) (p .cfgs) (c .mode) (c .access) address size)))
+  reached-answered address size l s = rw (l, s) (parts-answered (firstPart c address size) address size)
 
   -- untranslated it is the decision on the address itself, refusal 1 too
   pub reached-physical : (address size : ℕ) → lawful m ≡ true → translated c ≡ false
       → reached p m c address size ≡ byRule address (checked (p .cfgs) (p .addrs) (c .mode) (c .access) address size)
-  unfolding reached checked
-  reached-physical address size l n = rw (l, n) (by-size (isSize size))
+  unfolding reached partsReached partReached located checked
+  reached-physical address size l n = rw (l, n, eq-eqb size size refl) (by-size (isSize size) (decided p m c address size))
     where
-      by-size : (s : Bool) → cond s (byRule address (decided p m c address size)) (Refused 1) ≡ byRule address (cond s (decided p m c address size) (RuleRefuses 1))
-      by-size true = refl
-      by-size false = refl
+      by-size : (s : Bool) (d : Decision) → cond s (byRule address d) (Refused 1) ≡ byRule address (cond s d (RuleRefuses 1))
+      by-size true d = refl
+      by-size false d = refl

@@ -10,18 +10,15 @@ use lib.ListN.{length, getD}
 use borrow.Author.Tests.{le-leb, lt-leb, lt-ltb, le-ltb}
 use Rattle.pmp.specs.declared.Mode.the-variants.{Supervisor}
 use Rattle.pmp.specs.declared.Access.the-variants.{Load}
-use Rattle.pmp.specs.declared.Decision.{Decision}
-use Rattle.pmp.specs.Entry.{top, entrySpan}
-use Rattle.pmp.specs.Rule.{none, byteRule}
+use Rattle.pmp.specs.Entry.{top}
+use Rattle.pmp.specs.Rule.{none}
 use Rattle.protection.specs.declared.Pmp.{Pmp}
 use Rattle.paging.specs.declared.Context.{Context}
 use Rattle.paging.specs.declared.Word.the-variants.{Read, Denied}
-use Rattle.paging.specs.declared.Walked.{Walked}
 use Rattle.paging.specs.declared.Walked.the-variants.{PageFault}
-use Rattle.paging.specs.declared.Found.{Found}
 use Rattle.paging.specs.Memory.{Memory, lawful, wordAt}
 use Rattle.paging.specs.Entry.{pages}
-use Rattle.paging.specs.Walk.{canonical, entryAddress, readBy, tableRead, onward, foundAt, walkFrom, walked}
+use Rattle.paging.specs.Walk.{canonical, entryAddress, walkFrom, walked, asked, nextCheck}
 
 -- ---- the pages below an entry
 
@@ -79,28 +76,21 @@ entry-aligned table level address = multiple (table % 2 ^ 44) (address / (4096 *
     multiple : (a b : ℕ) → (a * 4096 + b * 8) % 8 ≡ 0
     multiple a b = omega arith
 
--- ---- a page-table read, by what the byte rule decides in mode S
+-- ---- what the byte rule is asked next
 
-module _ (p : Pmp) (m : Memory) (address : ℕ) where
-  pub read-by : (d r : Decision) → r ≡ byteRule (entrySpan (p .cfgs) (p .addrs)) (p .cfgs) Supervisor Load address 8 → r ≡ d
-      → readBy d (wordAt m address) ≡ tableRead p m address
-  unfolding tableRead
-  read-by d r h e = ap (λ (x : Decision). readBy x (wordAt m address)) (sym e ∙ h)
+module _ (c : Context) (address size : ℕ) where
+  pub check-last : (levels place : ℕ) → levels ≡ 0
+      → asked (c .mode) (c .access) place size ≡ nextCheck c address size levels place
+  check-last levels place e = rw e
 
--- ---- the walk, level by level
+  pub check-read : (levels table : ℕ) → (levels ≡ 0 → ⊥)
+      → asked Supervisor Load (entryAddress table (levels - 1) address) 8 ≡ nextCheck c address size levels table
+  check-read zero table n = absurd (n refl)
+  check-read (suc level) table n = let e : suc level - 1 ≡ level = omega arith in rw e
+
+-- ---- where a walk goes
 
 module _ (p : Pmp) (m : Memory) (c : Context) (address : ℕ) where
-  pub walk-step : (level below table : ℕ) (r f : Found) (whole : Walked) → walkFrom p m c address level table ≡ whole
-      → level ≡ suc below → r ≡ foundAt p m c address below table → r ≡ f → onward (walkFrom p m c address below) f ≡ whole
-  unfolding walkFrom
-  walk-step level below table r f whole w s h e =
-      ap (onward (walkFrom p m c address below)) (sym e ∙ h) ∙ sym (ap (λ (l : ℕ). walkFrom p m c address l table) s) ∙ w
-
-  pub walk-end : (level table : ℕ) → level ≤ 0 → walkFrom p m c address level table ≡ PageFault
-  unfolding walkFrom
-  walk-end zero table h = refl
-  walk-end (suc level) table h = absurd (omega arith)
-
   pub walk-whole : canonical address ≡ true → walked p m c address ≡ walkFrom p m c address 3 (c .satp)
   unfolding walked
   walk-whole e = rw e

@@ -52,23 +52,27 @@ andThen (Refused number) next = Refused number
 abbrev pub room : ℕ → ℕ
 room address = 4096 - address % 4096
 
--- the bytes of an access that come before the boundary
-abbrev pub firstPart : ℕ → ℕ → ℕ
-firstPart address size = min size (room address)
+-- the bytes of an access that come before the boundary; one that is not translated heeds none
+abbrev pub firstPart : Context → ℕ → ℕ → ℕ
+firstPart c address size = cond (translated c) (min size (room address)) size
 
 module _ (p : Pmp) (m : Memory) (c : Context) where
+  -- the physical address, or a fault; untranslated the address is a physical one
+  unfoldable pub located : ℕ → Walked
+  located address = cond (translated c) (walked p m c address) (At address)
+
   -- what the byte rule decides of an access to physical memory, in the effective mode
   abbrev pub decided : ℕ → ℕ → Decision
   decided place size = byteRule (entrySpan (p .cfgs) (p .addrs)) (p .cfgs) (c .mode) (c .access) place size
 
-  -- where a walk ends: at a physical address the byte rule decides; tval is the virtual address
+  -- at a physical address the byte rule decides; tval is the virtual address
   abbrev pub arrived : ℕ → ℕ → Walked → Reached
   arrived address size (At place) = byRule address (decided place size)
   arrived address size PageFault = Fault (pageFaultCause (c .access)) address none
   arrived address size (AccessFault entry) = Fault (faultCause (c .access)) address entry
 
   unfoldable pub partReached : ℕ → ℕ → Reached
-  partReached address size = arrived address size (walked p m c address)
+  partReached address size = arrived address size (located address)
 
   -- two accesses in order where the first part is not all; addresses wrap at 2^64
   unfoldable pub partsReached : ℕ → ℕ → ℕ → Reached
@@ -77,11 +81,7 @@ module _ (p : Pmp) (m : Memory) (c : Context) where
       (partReached address size)
       (andThen (partReached address first) (partReached ((address + first) % 2 ^ 64) (size - first)))
 
-  -- refusal 13, then refusal 1; untranslated the address is a physical one
+  -- refusal 13, then refusal 1
   unfoldable pub reached : ℕ → ℕ → Reached
   reached address size =
-      cond (lawful m)
-      (cond (isSize size)
-      (cond (translated c) (partsReached (firstPart address size) address size) (byRule address (decided address size)))
-      (Refused 1))
-      (Refused 13)
+      cond (lawful m) (cond (isSize size) (partsReached (firstPart c address size) address size) (Refused 1)) (Refused 13)

@@ -2,7 +2,9 @@
 use Prim.Native.Nat.{ℕ, zero, suc, _+_, _*_, _/_, _%_, _^_}
 use mathlib.Core.Bool.{Bool, cond, _||_}
 use lib.Dec.{eqb}
+use Rattle.pmp.specs.declared.Mode.{Mode}
 use Rattle.pmp.specs.declared.Mode.the-variants.{Supervisor}
+use Rattle.pmp.specs.declared.Access.{Access}
 use Rattle.pmp.specs.declared.Access.the-variants.{Load}
 use Rattle.pmp.specs.declared.Decision.{Decision}
 use Rattle.pmp.specs.declared.Decision.the-variants.{Granted, Fault, Refused}
@@ -10,6 +12,7 @@ use Rattle.pmp.specs.Entry.{entrySpan}
 use Rattle.pmp.specs.Rule.{none, byteRule}
 use Rattle.protection.specs.declared.Pmp.{Pmp}
 use Rattle.paging.specs.declared.Context.{Context}
+use Rattle.paging.specs.declared.Check.{Check}
 use Rattle.paging.specs.declared.Word.{Word}
 use Rattle.paging.specs.declared.Word.the-variants.{Read, Denied}
 use Rattle.paging.specs.declared.Walked.{Walked}
@@ -62,3 +65,12 @@ module _ (p : Pmp) (m : Memory) (c : Context) (address : ℕ) where
 
   unfoldable pub walked : Walked
   walked = cond (canonical address) (walkFrom 3 (c .satp)) PageFault
+
+-- what the byte rule is asked
+abbrev pub asked : Mode → Access → ℕ → ℕ → Check
+asked mode access place size = record { mode = mode; access = access; place = place; size = size }
+
+-- and where so many levels are left: about the read of an entry in a table, with mode S, or about the access itself, at a physical address
+abbrev pub nextCheck : Context → ℕ → ℕ → ℕ → ℕ → Check
+nextCheck c address size zero place = asked (c .mode) (c .access) place size
+nextCheck c address size (suc level) table = asked Supervisor Load (entryAddress table level address) 8

@@ -1,9 +1,12 @@
 // What an access comes to.
 use crate::Context;
+use crate::Found;
 use crate::Reached;
 use crate::Walked;
 use crate::memory::is_lawful;
-use crate::walk::walk;
+use crate::walk::is_canonical;
+use crate::walk::next_check;
+use crate::walk::word_says;
 use pmp::Access;
 use pmp::Decision;
 use pmp::Mode;
@@ -12,7 +15,7 @@ use protection::Pmp;
 ghost use mathlib.Core.Path.{_≡_};
 ghost use Prim.Native.Nat.{_≤_};
 ghost use Rattle.paging.specs.Memory.{memoryAt};
-ghost use Rattle.paging.specs.Access.{pageFaultCause, translated, byRule, firstPart, partReached, partsReached, reached};
+ghost use Rattle.paging.specs.Access.{pageFaultCause, translated, firstPart, partReached, partsReached, reached};
 
 fn page_fault_cause(access: Access) -> u64
     ensures { λ r. ⌜ r ≡ pageFaultCause access ⌝ }
@@ -36,18 +39,8 @@ pub fn is_translated(context: Context) -> bool
     }
 }
 
-// What the byte rule decides, with the trap value of a fault.
-fn by_rule(tval: u64, decision: Decision) -> Reached
-    ensures { λ r. ⌜ r ≡ byRule tval decision ⌝ }
-{
-    match decision {
-        Decision::Granted(entry) => Reached::Granted(entry),
-        Decision::Fault(cause, entry) => Reached::Fault(cause, tval, entry),
-        Decision::Refused(number) => Reached::Refused(number),
-    }
-}
-
-// A translated access that crosses no boundary, of any number of bytes.
+// An access that crosses no boundary, of any number of bytes: one check after the other, those of the table reads from level 2 down and then that of the access
+// itself. All are made at one place, so that the byte rule is compiled once, in line.
 fn reach_part(
     pmp: Pmp,
     memory: &[u64],
@@ -58,32 +51,82 @@ fn reach_part(
 ) -> Reached
     ensures { λ r. ⌜ r ≡ partReached pmp (memoryAt (now (memory .entry)) base) context address size ⌝ }
 {
-    let mode = context.mode;
     let access = context.access;
-    match walk(pmp, memory, base, context, address) {
-        Walked::At(place) => {
-            let cfgs = pmp.cfgs;
-            let addrs = pmp.addrs;
-            by_rule(
-                address,
-                pmp::byte_rule(cfgs, addrs, mode, access, place, size),
-            )
+    let cfgs = pmp.cfgs;
+    let addrs = pmp.addrs;
+    let mut levels: u64 = 0;
+    let mut place = address;
+    if is_translated(context) {
+        if !is_canonical(address) {
+            return Reached::Fault(page_fault_cause(access), address, NONE);
         }
-        Walked::PageFault => Reached::Fault(page_fault_cause(access), address, NONE),
-        Walked::AccessFault(entry) => { Reached::Fault(pmp::fault_cause(access), address, entry) }
+        levels = 3;
+        place = context.satp;
+    }
+    loop {
+        let check = next_check(context, address, size, levels, place);
+        let check_mode = check.mode;
+        let check_access = check.access;
+        match pmp::byte_rule(
+            cfgs,
+            addrs,
+            check_mode,
+            check_access,
+            check.place,
+            check.size,
+        ) {
+            Decision::Granted(entry) => {
+                if levels == 0 {
+                    return Reached::Granted(entry);
+                }
+                levels -= 1;
+                match word_says(memory, base, context, address, levels, check.place) {
+                    Found::Table(next) => {
+                        if levels == 0 {
+                            return Reached::Fault(page_fault_cause(access), address, NONE);
+                        }
+                        place = next;
+                    }
+                    Found::Ends(end) => {
+                        match end {
+                            Walked::At(physical) => {
+                                levels = 0;
+                                place = physical;
+                            }
+                            Walked::PageFault => {
+                                return Reached::Fault(page_fault_cause(access), address, NONE);
+                            }
+                            Walked::AccessFault(denied) => {
+                                return Reached::Fault(pmp::fault_cause(access), address, denied);
+                            }
+                        }
+                    }
+                }
+            }
+            Decision::Fault(_, entry) => {
+                return Reached::Fault(pmp::fault_cause(access), address, entry);
+            }
+            Decision::Refused(_) => {
+                return Reached::Fault(pmp::fault_cause(access), address, NONE);
+            }
+        }
     }
 }
 
-// The bytes of an access before the next boundary of 4,096.
-fn first_part(address: u64, size: u64) -> u64
-    ensures { λ r. ⌜ r ≡ firstPart address size ⌝ }
+// The bytes of an access before the next boundary of 4,096; one that is not translated heeds none.
+fn first_part(context: Context, address: u64, size: u64) -> u64
+    ensures { λ r. ⌜ r ≡ firstPart context address size ⌝ }
     ensures { λ r. ⌜ r ≤ size ⌝ }
 {
     let room = 4096 - address % 4096;
-    if room < size { room } else { size }
+    if is_translated(context) & (room < size) {
+        room
+    } else {
+        size
+    }
 }
 
-// A translated access in its parts, of which the first has so many bytes: the first fault wins.
+// An access in its parts, of which the first has so many bytes: the first fault wins.
 fn reach_parts(
     pmp: Pmp,
     memory: &[u64],
@@ -136,16 +179,6 @@ pub fn reach(
     if !pmp::is_size(size) {
         return Reached::Refused(1);
     }
-    if !is_translated(context) {
-        let cfgs = pmp.cfgs;
-        let addrs = pmp.addrs;
-        let mode = context.mode;
-        let access = context.access;
-        return by_rule(
-            address,
-            pmp::byte_rule(cfgs, addrs, mode, access, address, size),
-        );
-    }
-    let first = first_part(address, size);
+    let first = first_part(context, address, size);
     reach_parts(pmp, memory, base, context, first, address, size)
 }

@@ -46,3 +46,11 @@ pub(crate) enum Found {
     Table(u64),
     Ends(Walked),
 }
+
+// What the byte rule is asked.
+pub(crate) struct Check {
+    pub(crate) mode: Mode,
+    pub(crate) access: Access,
+    pub(crate) place: u64,
+    pub(crate) size: u64,
+}

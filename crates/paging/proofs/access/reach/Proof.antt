@@ -20,32 +20,12 @@ returns-2 c =
 returns-3 : tie.Need-returns-3
 unfolding reached
 returns-3 c =
-    let r = c .before in
-    let i = r .before .before .before in
-    let t = i .before in
-    let k = t .before in
-    let s = k .before in
-    let l = s .before in
-    rw (
-      sym (l .before .is-lawful .ensures) ∙ not-false _ (l .if1 .left),
-      sym (s .is-size .ensures) ∙ not-false _ (k .if2 .left),
-      sym (t .is-translated .ensures) ∙ not-true _ (i .if3 .taken),
-      ← (r .byte-rule .ensures),
-    ) (c .by-rule .ensures)
-
-returns-4 : tie.Need-returns-4
-unfolding reached
-returns-4 c =
     let f = c .before in
-    let i = f .before in
-    let t = i .before in
-    let k = t .before in
-    let s = k .before in
+    let s = f .before .before in
     let l = s .before in
     rw (
       sym (l .before .is-lawful .ensures) ∙ not-false _ (l .if1 .left),
-      sym (s .is-size .ensures) ∙ not-false _ (k .if2 .left),
-      sym (t .is-translated .ensures) ∙ not-false _ (i .if3 .left),
+      sym (s .is-size .ensures) ∙ not-false _ (f .before .if2 .left),
       ← (f .first-part .ensures .0),
     ) (c .reach-parts .ensures)
 
@@ -59,8 +39,4 @@ reach-spec =
     returns-2
     (λ c κs. search needs)
     (λ c κs. search needs)
-    (λ c κs. search needs)
-    returns-3
-    (λ c κs. search needs)
-    (λ c κs. search needs)
-    returns-4)
+    returns-3)
