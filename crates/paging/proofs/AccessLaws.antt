@@ -5,13 +5,18 @@ use mathlib.Core.Bool.{Bool, true, false}
 use native.Mathlib.Omega.{arith}
 use lib.Dec.{eqb}
 use borrow.Author.Tests.{eq-eqb, ne-eqb, eqb-true, eqb-false}
+use Rattle.pmp.specs.declared.Access.{Access}
 use Rattle.pmp.specs.declared.Decision.{Decision}
+use Rattle.pmp.specs.declared.Decision.the-variants.{Granted as RuleGrants, Fault as RuleFaults, Refused as RuleRefuses}
+use Rattle.pmp.specs.Number.{faultCause}
 use Rattle.pmp.specs.Entry.{entrySpan}
 use Rattle.pmp.specs.Rule.{none, byteRule}
+use Rattle.pmp.proofs.Answered.{GrantOrFault, grants as rule-grants, faults as rule-faults, rule-answers}
 use Rattle.protection.specs.declared.Pmp.{Pmp}
 use Rattle.paging.specs.declared.Context.{Context}
 use Rattle.paging.specs.declared.Check.{Check}
 use Rattle.paging.specs.declared.Word.{Word}
+use Rattle.paging.specs.declared.Word.the-variants.{Denied}
 use Rattle.paging.specs.declared.Walked.the-variants.{At}
 use Rattle.paging.specs.declared.Reached.{Reached}
 use Rattle.paging.specs.declared.Reached.the-variants.{Granted, Fault}
@@ -21,6 +26,16 @@ use Rattle.paging.specs.Access.{pageFaultCause, translated, byRule, andT
 use Rattle.paging.proofs.WalkLaws.{walk-whole, walk-stray}
 
 -- ---- a part, check by check
+
+-- the byte rule never refuses, and faults with the cause of the access's kind
+abbrev pub denied : Access → ℕ → Decision → Reached
+denied access tval (RuleGrants entry) = Granted entry
+denied access tval (RuleFaults cause entry) = Fault (faultCause access) tval entry
+denied access tval (RuleRefuses number) = Fault (faultCause access) tval none
+
+denied-rule : (access : Access) (tval : ℕ) (d : Decision) → GrantOrFault access d → byRule tval d ≡ denied access tval d
+denied-rule access tval _ (rule-grants entry h) = refl
+denied-rule access tval _ (rule-faults entry h) = refl
 
 module _ (p : Pmp) (m : Memory) (c : Context) (address size : ℕ) where
   -- what a part comes to where so many levels are left: the walk from this table on, or the access at this physical address
@@ -75,6 +90,22 @@ module _ (p : Pmp) (m : Memory) (c : Context) (address size : ℕ) where
             → arrived p m c address size (onward (walkFrom p m c address below) (wordSays c address below x)) ≡ whole
         go zero s v h j = absurd (omega arith)
         go (suc l) s v h j = let b : below ≡ l = omega arith in rw (b, ← q, j, ← h) v
+
+    kind : levels ≡ 0 → k .access ≡ c .access
+    kind z = rw (asked, z)
+
+    answers : levels ≡ 0 → GrantOrFault (c .access) d
+    answers z =
+        rw (← (kind z), ← e, answer) (rule-answers (entrySpan (p .cfgs) (p .addrs)) (p .cfgs) (k .mode) (k .access) (k .place) (k .size))
+
+    -- a check that is not granted, whichever it is, is a fault of the access's kind
+    pub check-denies : (entry : ℕ) → ((word : Word) → readBy d word ≡ Denied entry)
+        → denied (c .access) address d ≡ Fault (faultCause (c .access)) address entry → Fault (faultCause (c .access)) address entry ≡ whole
+    check-denies entry reads held = go levels refl
+      where
+        go : (l : ℕ) → levels ≡ l → Fault (faultCause (c .access)) address entry ≡ whole
+        go zero z = sym held ∙ sym (denied-rule (c .access) address d (answers z)) ∙ check-ends z
+        go (suc l) z = check-reads l (Denied entry) z (reads (wordAt m (k .place)))
 
   -- the walk from a level on
   pub stage-on : (level table : ℕ) → (level ≡ 0 → ⊥) → arrived p m c address size (walkFrom p m c address level table) ≡ stage level table

@@ -103,16 +103,10 @@ fn reach_part(
                     }
                 }
             }
-            Decision::Fault(cause, entry) => {
-                if levels == 0 {
-                    return Reached::Fault(cause, address, entry);
-                }
+            Decision::Fault(_, entry) => {
                 return Reached::Fault(pmp::fault_cause(access), address, entry);
             }
-            Decision::Refused(number) => {
-                if levels == 0 {
-                    return Reached::Refused(number);
-                }
+            Decision::Refused(_) => {
                 return Reached::Fault(pmp::fault_cause(access), address, NONE);
             }
         }

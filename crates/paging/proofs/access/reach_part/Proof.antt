@@ -1,18 +1,22 @@
 -- `paging::access::reach_part` meets its contract: what the checks that are left come to is what the part comes to. Assumes nothing.
-use Prim.Native.Nat.{_-_, _≤_}
+use Prim.Native.Nat.{ℕ, _-_, _≤_}
 use mathlib.Core.Path.{_≡_, refl, sym, ap, _∙_}
 use mathlib.Core.Logic.{⊎-elim}
 use native.Mathlib.Omega.{arith}
 use borrow.Author.Needs.{needs}
 use borrow.Author.Tests.{not-true, not-false}
 use Rattle.pmp.specs.declared.Decision.{Decision}
+use Rattle.pmp.specs.Number.{faultCause}
 use Rattle.protection.specs.declared.Pmp.{Pmp}
+use Rattle.paging.specs.declared.Word.{Word}
+use Rattle.paging.specs.declared.Word.the-variants.{Denied}
 use Rattle.paging.specs.declared.Found.{Found}
 use Rattle.paging.specs.declared.Found.the-variants.{Ends}
+use Rattle.paging.specs.declared.Reached.the-variants.{Fault}
 use Rattle.paging.specs.Memory.{memoryAt, wordAt}
 use Rattle.paging.specs.Walk.{readBy, wordSays, onward, walkFrom}
 use Rattle.paging.specs.Access.{byRule, arrived, partReached}
-use Rattle.paging.proofs.AccessLaws.{stage, stage-physical, stage-walk, stage-stray, check-ends, check-reads, stage-on, stage-out}
+use Rattle.paging.proofs.AccessLaws.{stage, stage-physical, stage-walk, stage-stray, denied, check-ends, check-reads, check-denies, stage-on, stage-out}
 use Rattle.paging.proofs.access.reach_part.Statement.{statement}
 use Rattle.paging.proofs.access.reach_part.Tie as tie
 
@@ -48,6 +52,19 @@ reads c d e n =
     let l = c .before .before .loop in
     check-reads (a .pmp) (memoryAt (a .memory .now) (a .base)) (a .context) (a .address) (a .size) (l .levels) (l .place) (c .before .next-check .result)
     (c .byte-rule .result) d _ (l .inv .1) (c .before .next-check .ensures) (c .byte-rule .ensures) e (l .levels - 1) _ (omega arith) refl
+
+-- and so is the fault where the check is not granted
+denies : (c : tie.After-byte-rule Inv-loop μ-loop) (d : Decision) → c .byte-rule .result ≡ d → (entry : ℕ)
+    → ((w : Word) → readBy d w ≡ Denied entry)
+    → let a = c .before .before .before .before .before .before .before .before .args in
+    denied (a .context .access) (a .address) d ≡ Fault (faultCause (a .context .access)) (a .address) entry
+    → Fault (faultCause (a .context .access)) (a .address) entry
+    ≡ partReached (a .pmp) (memoryAt (a .memory .now) (a .base)) (a .context) (a .address) (a .size)
+denies c d e entry read held =
+    let a = c .before .before .before .before .before .before .before .before .args in
+    let l = c .before .before .loop in
+    check-denies (a .pmp) (memoryAt (a .memory .now) (a .base)) (a .context) (a .address) (a .size) (l .levels) (l .place) (c .before .next-check .result)
+    (c .byte-rule .result) d _ (l .inv .1) (c .before .next-check .ensures) (c .byte-rule .ensures) e entry read held
 
 -- and so is what that word says
 found : (c : tie.After-word-says Inv-loop μ-loop) (f : Found) → c .word-says .result ≡ f
@@ -131,24 +148,12 @@ returns-5 c =
 returns-6 : tie.Need-returns-6 Inv-loop μ-loop
 returns-6 c =
     let g = c .before .before in
-    ends (g .before .before) _ (g .cause .given .1) (c .if5 .taken)
+    rw (c .fault-cause2 .ensures) (denies (g .before .before) _ (g .entry2 .given .1) _ (λ w. refl) refl)
 
 returns-7 : tie.Need-returns-7 Inv-loop μ-loop
 returns-7 c =
-    let i = c .before in
-    let g = i .before .before in
-    rw (c .fault-cause2 .ensures) (reads (g .before .before) _ (g .cause .given .1) (i .if5 .left))
-
-returns-8 : tie.Need-returns-8 Inv-loop μ-loop
-returns-8 c =
-    let g = c .before .before in
-    ends (g .before .before) _ (g .number .given .1) (c .if6 .taken)
-
-returns-9 : tie.Need-returns-9 Inv-loop μ-loop
-returns-9 c =
-    let i = c .before in
-    let g = i .before .before in
-    rw (c .fault-cause3 .ensures) (reads (g .before .before) _ (g .number .given .1) (i .if6 .left))
+    let g = c .before in
+    rw (c .fault-cause3 .ensures) (denies (g .before .before) _ (g .enum-told2 .given .1) _ (λ w. refl) refl)
 
 pub reach-part-spec : {M : Type 1} → statement M
 reach-part-spec =
@@ -183,10 +188,8 @@ reach-part-spec =
     (λ c κs. search needs)
     returns-5
     (λ c. search needs)
+    (λ c κs. search needs)
     returns-6
-    (λ c κs. search needs)
-    returns-7
     (λ c. search needs)
-    returns-8
     (λ c κs. search needs)
-    returns-9)
+    returns-7)
