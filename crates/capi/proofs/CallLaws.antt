@@ -1,12 +1,12 @@
 -- What the tests of a call say, and what a call by steps leaves. Assumes nothing.
-use Prim.Native.Nat.{ℕ}
+use Prim.Native.Nat.{ℕ, _<_}
 use mathlib.Core.Path.{_≡_, refl, sym, ap, _∙_}
-use mathlib.Core.Bool.{Bool, true, false, cond, _&&_}
-use mathlib.Core.List.{List}
+use mathlib.Core.Bool.{Bool, true, false, cond, _&&_, and-false}
+use mathlib.Core.List.{List, [], _∷_}
 use lib.Dec.{eqb}
 use lib.ListN.{length}
 use lib.Seq.{sets}
-use borrow.Author.Tests.{eqb-true}
+use borrow.Author.Tests.{eqb-true, lt-leb}
 use Rattle.bits.proofs.Conjunction.{both}
 use Rattle.steps.specs.Decode.{stepsOf, nameSteps}
 use Rattle.paging.specs.Memory.{Memory}
@@ -39,6 +39,12 @@ module _ (hart map : List ℕ) (m : Memory) (steps answers : List ℕ) where
   pub unmade : runTest hart map steps answers ≡ false → Leaves (runCall hart map m steps answers) 0 hart map answers
   unfolding runCall
   unmade t = rw t (refl, (refl, (refl, refl)))
+
+  -- a first number that names no step
+  pub unnamed : (step a b : ℕ) → steps ≡ step ∷ a ∷ b ∷ [] → 17 < step → Leaves (runCall hart map m steps answers) 0 hart map answers
+  unfolding nameSteps
+  unnamed step a b e h =
+      unmade (rw (e, lt-leb step 17 h) (ap (λ (x : Bool). fits hart map && x) (and-false (answersFit (step ∷ a ∷ b ∷ []) answers)) ∙ and-false (fits hart map)))
 
   module _ (t : runTest hart map steps answers ≡ true) where
     parts : (length hart ≡ 42) × (length map ≡ 100) × (nameSteps steps ≡ true)
