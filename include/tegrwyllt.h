@@ -1,5 +1,5 @@
 /*
- * Tegrwyllt: a RISC-V hart with physical memory protection, for C.
+ * Tegrwyllt: a RISC-V hart with physical memory protection and Sv39, for C.
  *
  * A slice is passed as a pointer and a number of elements. The caller sees to
  * it that each pointer is aligned for its elements and not null, for an empty
@@ -8,10 +8,17 @@
  * says, whatever the slices hold and however long they are. Nothing is kept
  * from one call to the next.
  *
- * A hart is 41 words in the order of the saved text: mode pc mstatus medeleg
- * mideleg mie mip lines mtvec mcounteren mcountinhibit mscratch mepc mcause
- * mtval stvec scounteren sscratch sepc scause stval mcycle minstret pmpcfg0
- * pmpcfg2 pmpaddr0 .. pmpaddr15. mip has the software bits only.
+ * A hart is 42 words, first those of the saved text in its order: mode pc
+ * mstatus medeleg mideleg mie mip lines mtvec mcounteren mcountinhibit mscratch
+ * mepc mcause mtval stvec scounteren sscratch sepc scause stval mcycle minstret
+ * pmpcfg0 pmpcfg2 pmpaddr0 .. pmpaddr15; the last word is satp. mip has the
+ * software bits only.
+ *
+ * The memory is the page tables: words of 64 bits standing at the physical
+ * address base. It may have any number of words, also none, and is only read, by
+ * accesses that Sv39 translates. A base that is no multiple of 8, or that with 8
+ * added for each word is above 2^56, is refusal 13 at steps 14 to 16. A query is
+ * about a physical address, so it is lent no memory.
  *
  * A map is 100 words: its count, then first byte, last byte and owner of each
  * of 33 ranges. An owner is an entry, 0 to 15, or 16 for none.
@@ -24,8 +31,9 @@
  *   4 cause mode entry  trapped, with the destination mode
  *   5 number            refused
  *   6 cause 0 entry     fault (of a query)
- * The entry is the one that decided on the access, 0 to 15, or 16 for none. A
- * trap that comes from no access has none.
+ * The entry is the one that decided on the access, 0 to 15, or 16 for none: that
+ * of the last check, be it of the access or of a page-table read. A page fault, an
+ * entry outside the memory and a trap that comes from no access have none.
  */
 #ifndef TEGRWYLLT_H
 #define TEGRWYLLT_H
@@ -37,7 +45,7 @@
 extern "C" {
 #endif
 
-#define TEGRWYLLT_HART_WORDS 41
+#define TEGRWYLLT_HART_WORDS 42
 #define TEGRWYLLT_MAP_WORDS 100
 #define TEGRWYLLT_STEP_WORDS 3
 #define TEGRWYLLT_ANSWER_WORDS 4
@@ -55,16 +63,21 @@ extern "C" {
  */
 uint64_t tegrwyllt_step(uint64_t *hart, size_t hart_length,
                         uint64_t *map, size_t map_length,
+                        const uint64_t *memory, size_t memory_length,
+                        uint64_t base,
                         uint64_t step, uint64_t a, uint64_t b,
                         uint64_t *answer, size_t answer_length);
 
 /*
- * Steps in order, each given what the one before left. A step is three words,
- * its number, a and b; answers has four words for each step. Gives 1; or 0, and
- * changes nothing, where a length or any step's number is another.
+ * Steps in order, each given what the one before left, and all of them the same
+ * memory. A step is three words, its number, a and b; answers has four words for
+ * each step. Gives 1; or 0, and changes nothing, where a length or any step's
+ * number is another.
  */
 uint64_t tegrwyllt_run(uint64_t *hart, size_t hart_length,
                        uint64_t *map, size_t map_length,
+                       const uint64_t *memory, size_t memory_length,
+                       uint64_t base,
                        const uint64_t *steps, size_t steps_length,
                        uint64_t *answers, size_t answers_length);
 
@@ -81,14 +94,15 @@ uint64_t tegrwyllt_query(const uint64_t *hart, size_t hart_length,
 
 /*
  * Writes the hart's text to the first 1027 bytes of a buffer. Gives 0; or the
- * refusal's number, 3 or 6; or TEGRWYLLT_MISFIT. Unless 0, nothing is changed.
+ * refusal's number, 3, 6 or 12 (satp, SUM or a wide medeleg has no place in the
+ * text); or TEGRWYLLT_MISFIT. Unless 0, nothing is changed.
  */
 uint64_t tegrwyllt_save(const uint64_t *hart, size_t hart_length,
                         uint8_t *text, size_t text_length);
 
 /*
- * Reads a text back as a hart and its map. Gives 0; or the refusal's number, 4
- * or 5; or TEGRWYLLT_MISFIT. Unless 0, nothing is changed.
+ * Reads a text back as a hart, with satp 0, and its map. Gives 0; or the
+ * refusal's number, 4 or 5; or TEGRWYLLT_MISFIT. Unless 0, nothing is changed.
  */
 uint64_t tegrwyllt_restore(const uint8_t *text, size_t text_length,
                            uint64_t *hart, size_t hart_length,

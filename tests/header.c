@@ -1,4 +1,4 @@
-/* Each function of the archive through the header: values worked out by hand from the scope document and request [5]. */
+/* Each function of the archive through the header: values worked out by hand from the scope document and requests [5] and [8]. */
 #include <inttypes.h>
 #include <stdio.h>
 #include <stdlib.h>
@@ -6,7 +6,7 @@
 
 #include "tegrwyllt.h"
 
-enum { HART = 41, MAP = 100, ANSWER = 4, TEXT = 1027 };
+enum { HART = 42, MAP = 100, ANSWER = 4, TEXT = 1027 };
 
 static void expect(int holds, const char *what) {
     if (!holds) {
@@ -14,6 +14,19 @@ static void expect(int holds, const char *what) {
         exit(1);
     }
 }
+
+/* No words at address 0, as most calls are lent. */
+static const uint64_t none[1];
+
+/* Page tables from 0x80000000 on: the root, a table of level 1 and one of level 0. */
+enum { TABLES = 3 * 512, SATP = 41, MTVAL = 14 };
+static const uint64_t base = 0x80000000;
+static const uint64_t tables[TABLES] = {
+    [0] = 0x20000401,        /* the root's entry 0 points to the table at 0x80001000 */
+    [512] = 0x20000801,      /* and that one's to the table at 0x80002000 */
+    [1024 + 3] = 0x240000D7, /* page 0x3000 at 0x90000000: V R W U A D */
+    [1024 + 4] = 0x24000453, /* page 0x4000 at 0x90001000: V R U A */
+};
 
 static int answers(const uint64_t *answer, uint64_t kind, uint64_t value, uint64_t mode, uint64_t entry) {
     return answer[0] == kind && answer[1] == value && answer[2] == mode && answer[3] == entry;
@@ -24,9 +37,9 @@ int main(void) {
 
     /* A state that no hart can hold steps only by a reset. */
     hart[0] = 2;
-    expect(tegrwyllt_step(hart, HART, map, MAP, 11, 0, 0, answer, ANSWER) == 1, "a refused step is a step");
+    expect(tegrwyllt_step(hart, HART, map, MAP, none, 0, 0, 11, 0, 0, answer, ANSWER) == 1, "a refused step is a step");
     expect(answers(answer, 5, 3, 0, 0) && hart[0] == 2, "refusal 3 leaves the hart");
-    expect(tegrwyllt_step(hart, HART, map, MAP, 0, 0, 0, answer, ANSWER) == 1, "reset");
+    expect(tegrwyllt_step(hart, HART, map, MAP, none, 0, 0, 0, 0, 0, answer, ANSWER) == 1, "reset");
     expect(answers(answer, 0, 0, 0, 0), "reset is done");
     expect(hart[0] == 3 && hart[1] == 0x1000 && hart[2] == UINT64_C(0xA00000000), "the reset state");
     expect(map[0] == 1 && map[1] == 0 && map[2] == (UINT64_C(1) << 56) - 1 && map[3] == 16, "the reset map");
@@ -34,7 +47,7 @@ int main(void) {
     /* Entry 0: NA4 at word 3, locked, no rights; an access of 8 bytes at 8 touches it and faults in M too. */
     const uint64_t steps[] = {1, 0x3B0, 3, 1, 0x3A0, 0x90, 15, 0x8, 8, 15, 0x10, 8, 15, 0, 3};
     uint64_t told[20], kept[20];
-    expect(tegrwyllt_run(hart, HART, map, MAP, steps, 15, told, 20) == 1, "a run");
+    expect(tegrwyllt_run(hart, HART, map, MAP, none, 0, 0, steps, 15, told, 20) == 1, "a run");
     expect(answers(told, 1, 0, 0, 0) && answers(told + 4, 1, 0, 0, 0), "CSR writes answer the old value");
     expect(answers(told + 8, 4, 5, 3, 0), "the load faults to M, by entry 0");
     expect(answers(told + 12, 3, 0, 0, TEGRWYLLT_NO_ENTRY), "the load beside it is granted, by none");
@@ -42,7 +55,7 @@ int main(void) {
     expect(map[0] == 3 && map[4] == 0xC && map[5] == 0xF && map[6] == 0, "the map has the entry's bytes");
 
     /* A trap that comes from no access has no entry: ECALL from M. */
-    expect(tegrwyllt_step(hart, HART, map, MAP, 11, 0, 0, answer, ANSWER) == 1 && answers(answer, 4, 11, 3, TEGRWYLLT_NO_ENTRY), "ECALL");
+    expect(tegrwyllt_step(hart, HART, map, MAP, none, 0, 0, 11, 0, 0, answer, ANSWER) == 1 && answers(answer, 4, 11, 3, TEGRWYLLT_NO_ENTRY), "ECALL");
 
     /* The query answers as the step does. */
     expect(tegrwyllt_query(hart, HART, map, MAP, 3, 1, 0x8, 8, answer, ANSWER) == 1 && answers(answer, 6, 5, 0, 0), "a fault by entry 0");
@@ -70,12 +83,30 @@ int main(void) {
     expect(memcmp(hart, back, sizeof hart) == 0 && memcmp(map, ranges, sizeof map) == 0, "the same hart and map");
 
     /* Slices of another length change nothing. */
-    expect(tegrwyllt_step(hart, HART - 1, map, MAP, 0, 0, 0, answer, ANSWER) == 0, "40 words are no hart");
-    expect(tegrwyllt_step(hart, HART, map, MAP, 18, 0, 0, answer, ANSWER) == 0, "there is no step 18");
+    expect(tegrwyllt_step(hart, HART - 1, map, MAP, none, 0, 0, 0, 0, 0, answer, ANSWER) == 0, "41 words are no hart");
+    expect(tegrwyllt_step(hart, HART, map, MAP, none, 0, 0, 18, 0, 0, answer, ANSWER) == 0, "there is no step 18");
     memcpy(kept, told, sizeof told);
-    expect(tegrwyllt_run(hart, HART, map, MAP, steps, 15, told, 15) == 0, "three words for each answer are too few");
+    expect(tegrwyllt_run(hart, HART, map, MAP, none, 0, 0, steps, 15, told, 15) == 0, "three words for each answer are too few");
     expect(memcmp(hart, back, sizeof hart) == 0 && memcmp(map, ranges, sizeof map) == 0, "hart and map are left");
     expect(memcmp(told, kept, sizeof told) == 0, "and so are the answers");
+
+    /* Entry 1 gets all memory, satp the root, and MPRV lets M load and store as U. */
+    const uint64_t paging[] = {1, 0x3B1, (UINT64_C(1) << 54) - 1, 1, 0x3A0, 0x1F90, 1, 0x180, UINT64_C(0x8000000000080000), 1, 0x300, 0x20000,
+                               15, 0x3FFC, 8, 16, 0x3FFC, 4};
+    uint64_t given[24];
+    expect(tegrwyllt_run(hart, HART, map, MAP, tables, TABLES, base, paging, 18, given, 24) == 1, "a run with page tables");
+    expect(hart[SATP] == UINT64_C(0x8000000000080000) && answers(given + 8, 1, 0, 0, 0), "satp was 0 and is written");
+    expect(answers(given + 16, 3, 0, 0, 1), "a load across two pages is granted, by entry 1");
+    expect(answers(given + 20, 3, 0, 0, 1), "a store to the first of them is granted");
+    expect(tegrwyllt_step(hart, HART, map, MAP, tables, TABLES, base + 4, 15, 0x3FFC, 3, answer, ANSWER) == 1, "a base of no whole word");
+    expect(answers(answer, 5, 13, 0, 0), "refusal 13, before 1");
+    expect(tegrwyllt_step(hart, HART, map, MAP, tables, 1024, base, 15, 0x3008, 8, answer, ANSWER) == 1, "a table outside the memory");
+    expect(answers(answer, 4, 5, 3, 16) && hart[MTVAL] == 0x3008, "an access fault at the virtual address");
+    hart[2] = UINT64_C(0xA00020000);
+    expect(tegrwyllt_step(hart, HART, map, MAP, tables, TABLES, base, 16, 0x3FFC, 8, answer, ANSWER) == 1, "a store across");
+    expect(answers(answer, 4, 15, 3, 16) && hart[MTVAL] == 0x4000, "a page fault of its second part");
+    expect(tegrwyllt_save(hart, HART, text, TEXT) == 12, "satp has no place in the text: refusal 12");
+    expect(tegrwyllt_save(hart, HART, text, TEXT - 1) == 6, "after 6");
     puts("header: every function answers as the scope document says");
     return 0;
 }

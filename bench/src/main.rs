@@ -15,6 +15,7 @@ mod queries;
 mod replays;
 mod steps;
 mod texts;
+mod translated;
 
 use std::error::Error;
 use std::process::ExitCode;

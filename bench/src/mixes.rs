@@ -1,7 +1,9 @@
 //! The mixes of steps: those of the Rattle program `step_speed`, in its order.
 
 use reference::csr::present;
-use reference::{Hart, Map, Step, step};
+use reference::{Hart, Map, Memory, Step, step};
+
+use crate::translated;
 
 pub type Words = [u64; 3];
 
@@ -16,6 +18,10 @@ pub struct Mix {
     pub steps: &'static [Words],
     /// How the plain Rust programs judge CSR accesses.
     pub judgement: Judgement,
+    /// What is lent for page tables.
+    pub memory: Memory<'static>,
+    /// The hart and map from which it starts.
+    pub start: fn() -> (Hart, Map),
 }
 
 #[derive(Clone, Copy)]
@@ -26,7 +32,7 @@ pub enum Judgement {
     Table,
 }
 
-pub static MIXES: [Mix; 5] = [
+pub static MIXES: [Mix; 6] = [
     by_rule("CSR steps", 1, 512_000, &CSR),
     by_rule("traps and returns", 2, 512_000, &TRAPS),
     by_rule("accesses, on the registers", 3, 204_800, &ACCESSES),
@@ -37,11 +43,23 @@ pub static MIXES: [Mix; 5] = [
         count: 1_024_000,
         steps: &ANY_NUMBER,
         judgement: Judgement::Table,
+        memory: Memory::EMPTY,
+        start: setting,
+    },
+    Mix {
+        name: "translated accesses",
+        number: 6,
+        count: 204_800,
+        steps: &translated::STEPS,
+        judgement: Judgement::Rule,
+        memory: translated::MEMORY,
+        start: translated::setting,
     },
 ];
 
 const fn by_rule(name: &'static str, number: u64, count: u64, steps: &'static [Words; 16]) -> Mix {
-    Mix { name, number, count, steps, judgement: Judgement::Rule }
+    let (memory, start) = (Memory::EMPTY, setting as fn() -> (Hart, Map));
+    Mix { name, number, count, steps, judgement: Judgement::Rule, memory, start }
 }
 
 const WRITE: u64 = 1;
@@ -179,7 +197,7 @@ const PROTECTION: [Words; 16] = [
     [WRITE, 0x3A0, 0x1111_1111_1111_1111],
 ];
 
-/// The hart and map from which every mix starts: sixteen entries of four
+/// The hart and map from which all mixes but the last start: sixteen entries of four
 /// readable bytes each (33 ranges), and traps and interrupts for both levels.
 pub fn setting() -> (Hart, Map) {
     let (mut hart, mut map) = (Hart::reset(), Map::reset());
@@ -194,7 +212,7 @@ pub fn setting() -> (Hart, Map) {
         [WRITE, 0x304, 0xAAA],
     ];
     for words in addresses.chain(others) {
-        step(&mut hart, &mut map, formed(words));
+        step(&mut hart, &mut map, Memory::EMPTY, formed(words));
     }
     (hart, map)
 }

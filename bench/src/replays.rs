@@ -9,7 +9,7 @@ use std::thread::sleep;
 use std::time::Duration;
 
 use reference::random::Random;
-use reference::{Hart, Map, RECORD_LENGTH, Step, generate, step, write_record};
+use reference::{Hart, Map, Memory, RECORD_LENGTH, Step, generate, step, write_record};
 
 use crate::contest::{Work, contest};
 use crate::mixes::formed;
@@ -76,7 +76,7 @@ fn make_trace(path: &Path) -> Result<(), Box<dyn Error>> {
     let (mut hart, mut map) = (Hart::reset(), Map::reset());
     for _ in 0..RECORDS {
         let next: Step = formed(generate::step(&mut random, &hart, &map));
-        step(&mut hart, &mut map, next);
+        step(&mut hart, &mut map, Memory::EMPTY, next);
         file.write_all(&write_record(next.to_words()))?;
     }
     Ok(file.flush()?)

@@ -9,13 +9,14 @@ use std::time::Duration;
 
 use reference::csr::{Judge, Rule};
 use reference::{
-    ANSWER_WORDS, Answer, HART_WORDS, Hart, MAP_WORDS, Map, STEP_WORDS, Step, capi, step_judged_by,
+    ANSWER_WORDS, Answer, HART_WORDS, Hart, MAP_WORDS, Map, Memory, STEP_WORDS, Step, capi,
+    step_judged_by,
 };
 
 use crate::checksum::Checksum;
 use crate::contest::{Work, contest};
 use crate::csr_table::{self, Table};
-use crate::mixes::{Judgement, MIXES, Mix, Words, formed, setting};
+use crate::mixes::{Judgement, MIXES, Mix, Words, formed};
 use crate::processor;
 
 const PROGRAM: &str = "target/bin/step_speed";
@@ -86,8 +87,8 @@ pub fn way(name: &str) -> Option<fn(&Mix, u64) -> Checksum> {
 }
 
 /// The words that a mix starts from, in the product's interface.
-fn start() -> ([u64; HART_WORDS], [u64; MAP_WORDS]) {
-    let (hart, map) = setting();
+fn start(mix: &Mix) -> ([u64; HART_WORDS], [u64; MAP_WORDS]) {
+    let (hart, map) = (mix.start)();
     (hart.to_words(), map.to_words())
 }
 
@@ -99,10 +100,11 @@ fn in_place(mix: &Mix, count: u64) -> Checksum {
 }
 
 fn in_place_judged_by<J: Judge>(mix: &Mix, count: u64) -> Checksum {
-    let (mut hart, mut map): (Hart, Map) = setting();
+    let (mut hart, mut map): (Hart, Map) = (mix.start)();
     let mut sum = Checksum::default();
     for &words in endless(mix).take(count as usize) {
-        sum.add_answer(step_judged_by::<J>(&mut hart, &mut map, formed(words)).words());
+        let answer = step_judged_by::<J>(&mut hart, &mut map, mix.memory, formed(words));
+        sum.add_answer(answer.words());
     }
     sum.add_left(&hart.to_words(), &map.to_words());
     sum
@@ -111,8 +113,13 @@ fn in_place_judged_by<J: Judge>(mix: &Mix, count: u64) -> Checksum {
 /// The form of `Hart::step`: hart and map go in by value, and both come back.
 /// A call stays a call, or the compiler would change them in place again.
 #[inline(never)]
-fn stepped<J: Judge>(mut hart: Hart, mut map: Map, next: Step) -> (Hart, Map, Answer) {
-    let answer = step_judged_by::<J>(&mut hart, &mut map, next);
+fn stepped<J: Judge>(
+    mut hart: Hart,
+    mut map: Map,
+    memory: Memory,
+    next: Step,
+) -> (Hart, Map, Answer) {
+    let answer = step_judged_by::<J>(&mut hart, &mut map, memory, next);
     (hart, map, answer)
 }
 
@@ -124,11 +131,11 @@ fn by_value(mix: &Mix, count: u64) -> Checksum {
 }
 
 fn by_value_judged_by<J: Judge>(mix: &Mix, count: u64) -> Checksum {
-    let (mut hart, mut map): (Hart, Map) = setting();
+    let (mut hart, mut map): (Hart, Map) = (mix.start)();
     let mut sum = Checksum::default();
     for &words in endless(mix).take(count as usize) {
         let answer;
-        (hart, map, answer) = stepped::<J>(hart, map, formed(words));
+        (hart, map, answer) = stepped::<J>(hart, map, mix.memory, formed(words));
         sum.add_answer(answer.words());
     }
     sum.add_left(&hart.to_words(), &map.to_words());
@@ -136,11 +143,11 @@ fn by_value_judged_by<J: Judge>(mix: &Mix, count: u64) -> Checksum {
 }
 
 fn one_by_one(mix: &Mix, count: u64) -> Checksum {
-    let (mut hart, mut map) = start();
+    let (mut hart, mut map) = start(mix);
     let mut sum = Checksum::default();
     let mut answer = [0; ANSWER_WORDS];
     for &words in endless(mix).take(count as usize) {
-        capi::step(&mut hart, &mut map, words, &mut answer);
+        capi::step(&mut hart, &mut map, mix.memory, words, &mut answer);
         sum.add_answer(answer);
     }
     sum.add_left(&hart, &map);
@@ -148,14 +155,14 @@ fn one_by_one(mix: &Mix, count: u64) -> Checksum {
 }
 
 fn in_batches(mix: &Mix, count: u64) -> Checksum {
-    let (mut hart, mut map) = start();
+    let (mut hart, mut map) = start(mix);
     let mut sum = Checksum::default();
     let period = BATCH.max(mix.steps.len());
     let steps: Vec<u64> = endless(mix).take(period).flatten().copied().collect();
     let batches = steps.chunks_exact(STEP_WORDS * BATCH).cycle();
     let mut answers = vec![0; ANSWER_WORDS * BATCH];
     for batch in batches.take(count as usize / BATCH) {
-        capi::run(&mut hart, &mut map, batch, &mut answers);
+        capi::run(&mut hart, &mut map, mix.memory, batch, &mut answers);
         answers.as_chunks().0.iter().for_each(|&answer| sum.add_answer(answer));
     }
     sum.add_left(&hart, &map);

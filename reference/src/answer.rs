@@ -23,6 +23,10 @@ pub enum Refusal {
     Map = 7,
     /// A record of a trace is broken.
     Record = 8,
+    /// The state has no text in the saved form.
+    NoText = 12,
+    /// The words lent are not at a lawful address.
+    Memory = 13,
 }
 
 impl Refusal {

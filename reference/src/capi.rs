@@ -2,8 +2,10 @@
 //!
 //! A hart is `HART_WORDS` words, a map `MAP_WORDS`, a step `STEP_WORDS` and an
 //! answer `ANSWER_WORDS`. Slices of any length may be lent: the product judges
-//! lengths itself.
+//! lengths itself. The words for page tables are of any number.
 #![allow(unsafe_code)]
+
+use crate::memory::Memory;
 
 unsafe extern "C" {
     fn tegrwyllt_step(
@@ -11,6 +13,9 @@ unsafe extern "C" {
         hart_length: usize,
         map: *mut u64,
         map_length: usize,
+        memory: *const u64,
+        memory_length: usize,
+        base: u64,
         step: u64,
         a: u64,
         b: u64,
@@ -23,6 +28,9 @@ unsafe extern "C" {
         hart_length: usize,
         map: *mut u64,
         map_length: usize,
+        memory: *const u64,
+        memory_length: usize,
+        base: u64,
         steps: *const u64,
         steps_length: usize,
         answers: *mut u64,
@@ -60,7 +68,13 @@ unsafe extern "C" {
 }
 
 /// One step; 1, or 0 where a length or the step's number is none there is.
-pub fn step(hart: &mut [u64], map: &mut [u64], step: [u64; 3], answer: &mut [u64]) -> u64 {
+pub fn step(
+    hart: &mut [u64],
+    map: &mut [u64],
+    memory: Memory,
+    step: [u64; 3],
+    answer: &mut [u64],
+) -> u64 {
     let [number, a, b] = step;
     // SAFETY: each pointer comes with the length of the slice it belongs to,
     // and the slices lent for writing do not overlap; so for all calls below.
@@ -70,6 +84,9 @@ pub fn step(hart: &mut [u64], map: &mut [u64], step: [u64; 3], answer: &mut [u64
             hart.len(),
             map.as_mut_ptr(),
             map.len(),
+            memory.words.as_ptr(),
+            memory.words.len(),
+            memory.base,
             number,
             a,
             b,
@@ -79,14 +96,24 @@ pub fn step(hart: &mut [u64], map: &mut [u64], step: [u64; 3], answer: &mut [u64
     }
 }
 
-/// A list of steps, each given what the one before left; 1 or 0 as for `step`.
-pub fn run(hart: &mut [u64], map: &mut [u64], steps: &[u64], answers: &mut [u64]) -> u64 {
+/// A list of steps, each given what the one before left, and all of them the same
+/// memory; 1 or 0 as for `step`.
+pub fn run(
+    hart: &mut [u64],
+    map: &mut [u64],
+    memory: Memory,
+    steps: &[u64],
+    answers: &mut [u64],
+) -> u64 {
     unsafe {
         tegrwyllt_run(
             hart.as_mut_ptr(),
             hart.len(),
             map.as_mut_ptr(),
             map.len(),
+            memory.words.as_ptr(),
+            memory.words.len(),
+            memory.base,
             steps.as_ptr(),
             steps.len(),
             answers.as_mut_ptr(),

@@ -1,13 +1,12 @@
 //! One step of a hart.
 
-use crate::answer::{Answer, Refusal, Ruling};
+use crate::answer::{Answer, Refusal};
 use crate::csr::{Judge, Rule};
 use crate::hart::Hart;
 use crate::holdable::{mask, within};
 use crate::map::Map;
+use crate::memory::Memory;
 use crate::protection::Access;
-use crate::query::lawful_size;
-use crate::status;
 use crate::step::Step;
 
 /// The greatest cause that a raise may have.
@@ -15,21 +14,27 @@ const LAST_RAISED_CAUSE: u64 = 7;
 const CYCLE_INHIBIT: u64 = 1 << 0;
 const INSTRET_INHIBIT: u64 = 1 << 2;
 
-/// Does one step in place. A refusal changes neither hart nor map.
-pub fn step(hart: &mut Hart, map: &mut Map, step: Step) -> Answer {
-    step_judged_by::<Rule>(hart, map, step)
+/// Does one step in place, with words lent for page tables. A refusal changes neither
+/// hart nor map.
+pub fn step(hart: &mut Hart, map: &mut Map, memory: Memory, step: Step) -> Answer {
+    step_judged_by::<Rule>(hart, map, memory, step)
 }
 
 /// The same, with another way to judge CSR accesses in place of the rule.
-pub fn step_judged_by<J: Judge>(hart: &mut Hart, map: &mut Map, step: Step) -> Answer {
+pub fn step_judged_by<J: Judge>(
+    hart: &mut Hart,
+    map: &mut Map,
+    memory: Memory,
+    step: Step,
+) -> Answer {
     if step != Step::Reset && !hart.can_hold() {
         return Answer::Refused(Refusal::State);
     }
-    hart.execute::<J>(map, step)
+    hart.execute::<J>(map, memory, step)
 }
 
 impl Hart {
-    fn execute<J: Judge>(&mut self, map: &mut Map, step: Step) -> Answer {
+    fn execute<J: Judge>(&mut self, map: &mut Map, memory: Memory, step: Step) -> Answer {
         match step {
             Step::Reset => self.restart(map),
             Step::CsrWrite { number, operation, operand } => {
@@ -45,9 +50,9 @@ impl Hart {
             Step::Ecall => self.ecall(),
             Step::Ebreak => self.ebreak(),
             Step::Advance { target } => self.advance(target),
-            Step::Fetch => self.access(self.mode, Access::Fetch, self.pc, 4),
-            Step::Load { address, size } => self.data_access(Access::Load, address, size),
-            Step::Store { address, size } => self.data_access(Access::Store, address, size),
+            Step::Fetch => self.fetch(memory),
+            Step::Load { address, size } => self.data_access(memory, Access::Load, address, size),
+            Step::Store { address, size } => self.data_access(memory, Access::Store, address, size),
             Step::Elapsed { cycles, retired } => self.elapse(cycles, retired),
         }
     }
@@ -79,25 +84,6 @@ impl Hart {
         }
         self.pc = target;
         Answer::Done
-    }
-
-    fn data_access(&mut self, access: Access, address: u64, size: u64) -> Answer {
-        if !lawful_size(size) {
-            return Answer::Refused(Refusal::Size);
-        }
-        self.access(self.effective_mode(), access, address, size)
-    }
-
-    fn access(&mut self, mode: u64, access: Access, address: u64, size: u64) -> Answer {
-        match self.byte_rule(mode, access, address, size) {
-            Ruling::Granted { entry } => Answer::Granted { entry },
-            Ruling::Fault { cause, entry } => self.access_fault(cause, address, entry),
-        }
-    }
-
-    /// The mode in which loads and stores are judged.
-    fn effective_mode(&self) -> u64 {
-        if self.mstatus & status::MPRV != 0 { status::mpp(self.mstatus) } else { self.mode }
     }
 
     fn elapse(&mut self, cycles: u64, retired: u64) -> Answer {

@@ -1,7 +1,8 @@
-//! The registers of one hart, in the order of the saved text.
+//! The registers of one hart, in the order of the saved text; satp, which that lacks,
+//! is the last.
 
-/// Number of words of a hart: one for each line of the saved text.
-pub const HART_WORDS: usize = 41;
+/// Number of words of a hart: one for each line of the saved text, and satp.
+pub const HART_WORDS: usize = 42;
 
 pub const USER: u64 = 0;
 pub const SUPERVISOR: u64 = 1;
@@ -61,6 +62,7 @@ pub struct Hart {
     /// The configuration bytes of pmpcfg0 and pmpcfg2, entry 0 first.
     pub pmpcfg: [u8; 16],
     pub pmpaddr: [u64; 16],
+    pub satp: u64,
 }
 
 impl Hart {
@@ -99,6 +101,7 @@ impl Hart {
             minstret: words[22],
             pmpcfg: configuration_bytes(words[23], words[24]),
             pmpaddr: std::array::from_fn(|entry| words[25 + entry]),
+            satp: words[41],
         }
     }
 
@@ -131,7 +134,8 @@ impl Hart {
             self.configuration_register(0),
             self.configuration_register(8),
         ]);
-        words[25..].copy_from_slice(&self.pmpaddr);
+        words[25..41].copy_from_slice(&self.pmpaddr);
+        words[41] = self.satp;
         words
     }
 

@@ -2,12 +2,13 @@
 
 use crate::hart::{Hart, MACHINE, SUPERVISOR, USER};
 use crate::status;
+use crate::sv39::satp;
 
 /// The writable bits of each register; all other bits have one value only.
 pub mod mask {
-    pub const MSTATUS: u64 = 0x7A_19AA;
-    pub const SSTATUS: u64 = 0x8_0122;
-    pub const MEDELEG: u64 = 0x3FF;
+    pub const MSTATUS: u64 = 0x7E_19AA;
+    pub const SSTATUS: u64 = 0xC_0122;
+    pub const MEDELEG: u64 = 0xB3FF;
     pub const MIDELEG: u64 = 0x222;
     pub const MIE: u64 = 0xAAA;
     pub const SOFTWARE_INTERRUPTS: u64 = 0x222;
@@ -17,6 +18,14 @@ pub mod mask {
     pub const EPC: u64 = !3;
     pub const PMPCFG: u8 = 0x9F;
     pub const PMPADDR: u64 = (1 << 54) - 1;
+    /// MODE 0 or 8, and PPN.
+    pub const SATP: u64 = 1 << 63 | ((1 << 44) - 1);
+
+    /// What the saved text has room for.
+    pub mod text {
+        pub const MSTATUS: u64 = 0x7A_19AA;
+        pub const MEDELEG: u64 = 0x3FF;
+    }
 }
 
 impl Hart {
@@ -30,8 +39,16 @@ impl Hart {
             && within(self.medeleg, mask::MEDELEG)
             && within(self.mcause, mask::CAUSE)
             && within(self.scause, mask::CAUSE)
+            && within(self.satp, mask::SATP)
             && self.pmpcfg.iter().all(|&byte| can_hold_pmpcfg(byte))
             && self.pmpaddr.iter().all(|&word| within(word, mask::PMPADDR))
+    }
+
+    /// Whether the saved text can hold what this hart does.
+    pub fn has_text(&self) -> bool {
+        self.satp == 0
+            && within(self.mstatus, status::FIXED | mask::text::MSTATUS)
+            && within(self.medeleg, mask::text::MEDELEG)
     }
 
     fn can_hold_addresses(&self) -> bool {
@@ -63,6 +80,11 @@ pub fn within(word: u64, mask: u64) -> bool {
 
 pub fn can_hold_tvec(tvec: u64) -> bool {
     matches!(tvec & 3, 0 | 1)
+}
+
+/// Whether a written MODE is one that satp can have.
+pub fn can_hold_satp_mode(value: u64) -> bool {
+    matches!(value >> satp::MODE_SHIFT, satp::BARE | satp::SV39)
 }
 
 fn can_hold_mstatus(mstatus: u64) -> bool {

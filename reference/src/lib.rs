@@ -3,6 +3,7 @@
 //! speed baseline.
 #![deny(unsafe_code)]
 
+mod access;
 mod answer;
 pub mod boundaries;
 #[cfg(feature = "capi")]
@@ -15,6 +16,8 @@ mod hexadecimal;
 mod holdable;
 mod interrupt;
 mod map;
+mod memory;
+mod memory_text;
 pub mod protection;
 mod query;
 pub mod random;
@@ -23,6 +26,7 @@ mod replay;
 mod returns;
 pub mod status;
 mod step;
+pub mod sv39;
 mod text;
 mod trap;
 
@@ -31,6 +35,8 @@ pub use execute::{step, step_judged_by};
 pub use hart::{HART_WORDS, Hart, MACHINE, Mode, SUPERVISOR, USER};
 pub use holdable::mask;
 pub use map::{MAP_WORDS, Map, NONE, RANGES, Range};
+pub use memory::Memory;
+pub use memory_text::{LONGEST_MEMORY_TEXT, MOST_WORDS, read_memory, write_memory};
 pub use protection::Access;
 pub use query::query;
 pub use record::{RECORD_LENGTH, read_record, write_record};

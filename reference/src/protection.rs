@@ -40,6 +40,15 @@ impl Access {
         }
     }
 
+    /// The exception of an access to a page that does not permit it.
+    pub fn page_fault(self) -> u64 {
+        match self {
+            Access::Fetch => 12,
+            Access::Load => 13,
+            Access::Store => 15,
+        }
+    }
+
     /// The bit of a configuration byte that permits this access.
     fn permission(self) -> u8 {
         match self {

@@ -7,14 +7,17 @@ use crate::execute::step;
 use crate::hart::{Hart, Mode};
 use crate::hexadecimal::word_digits;
 use crate::map::{Map, NONE, Range};
+use crate::memory::Memory;
 use crate::record::{RECORD_LENGTH, read_record};
 use crate::step::Step;
-use crate::text::{form, restore};
+use crate::text::{TEXT_LENGTH, restore, save};
 
-/// Replays the records of `input` from a saved text, or from reset, and writes
-/// what it answers. It holds one record at a time, so lend it buffered ends.
+/// Replays the records of `input` from a saved text, or from reset, with words lent
+/// to each, and writes what it answers. It holds one record at a time, so lend it
+/// buffered ends.
 pub fn replay(
     start: Option<&[u8]>,
+    memory: Memory,
     input: &mut impl Read,
     output: &mut impl Write,
 ) -> io::Result<()> {
@@ -23,8 +26,8 @@ pub fn replay(
         Some(Ok(started)) => started,
         Some(Err(refusal)) => return writeln!(output, "refused {}", refusal.number()),
     };
-    let left = replay_records(&mut hart, &mut map, input, output)?;
-    output.write_all(&form(&hart.to_words()))?;
+    let left = replay_records(&mut hart, &mut map, memory, input, output)?;
+    write_state(output, &hart)?;
     map.listed().iter().try_for_each(|range| write_range(output, range))?;
     writeln!(output, "left {left}")
 }
@@ -33,6 +36,7 @@ pub fn replay(
 fn replay_records(
     hart: &mut Hart,
     map: &mut Map,
+    memory: Memory,
     input: &mut impl Read,
     output: &mut impl Write,
 ) -> io::Result<usize> {
@@ -47,7 +51,7 @@ fn replay_records(
             writeln!(output, "refused {} record {number}", Refusal::Record.number())?;
             return Ok(0);
         };
-        write_answer(output, next, step(hart, map, next))?;
+        write_answer(output, next, step(hart, map, memory, next))?;
         number = number.wrapping_add(1);
     }
 }
@@ -64,6 +68,15 @@ pub fn fill(input: &mut impl Read, buffer: &mut [u8]) -> io::Result<usize> {
         }
     }
     Ok(length)
+}
+
+/// The saved text, or one line where there is none of this state.
+fn write_state(output: &mut impl Write, hart: &Hart) -> io::Result<()> {
+    let mut text = [0; TEXT_LENGTH];
+    match save(hart, &mut text) {
+        Ok(()) => output.write_all(&text),
+        Err(refusal) => writeln!(output, "refused {}", refusal.number()),
+    }
 }
 
 /// The line of an answer. A trap tells its entry after an access alone: the cause

@@ -7,6 +7,7 @@ pub const MPIE: u64 = 1 << 7;
 pub const SPP: u64 = 1 << 8;
 pub const MPP: u64 = 3 << 11;
 pub const MPRV: u64 = 1 << 17;
+pub const SUM: u64 = 1 << 18;
 pub const MXR: u64 = 1 << 19;
 pub const TVM: u64 = 1 << 20;
 pub const TW: u64 = 1 << 21;

@@ -8,8 +8,8 @@ use crate::map::Map;
 /// Number of bytes of a saved text.
 pub const TEXT_LENGTH: usize = 1027;
 
-/// The keys of the saved text, one for each word of a hart.
-pub const KEYS: [&str; HART_WORDS] = [
+/// The keys of the saved text, one for each word of a hart but satp.
+pub const KEYS: [&str; 41] = [
     "mode",
     "pc",
     "mstatus",
@@ -60,20 +60,23 @@ pub fn save(hart: &Hart, buffer: &mut [u8]) -> Result<(), Refusal> {
         return Err(Refusal::State);
     }
     let text = buffer.get_mut(..TEXT_LENGTH).ok_or(Refusal::Buffer)?;
+    if !hart.has_text() {
+        return Err(Refusal::NoText);
+    }
     write_words(&hart.to_words(), text);
     Ok(())
 }
 
-/// Reads a text back, with the map of its protection registers.
+/// Reads a text back, with the map of its protection registers. satp is 0.
 pub fn restore(text: &[u8]) -> Result<(Hart, Map), Refusal> {
     let hart = Hart::from_words(&read_words(text).ok_or(Refusal::Form)?);
-    if !hart.can_hold() {
+    if !hart.can_hold() || !hart.has_text() {
         return Err(Refusal::TextState);
     }
     Ok((hart, hart.compile()))
 }
 
-/// The form alone, with any words whatever.
+/// The form alone, with any words whatever; that of satp has no place in it.
 pub fn form(words: &[u64; HART_WORDS]) -> [u8; TEXT_LENGTH] {
     let mut text = [0; TEXT_LENGTH];
     write_words(words, &mut text);

@@ -103,7 +103,7 @@ fn b5_absent_though_the_standard_has_them() {
 #[test]
 fn writes_of_read_zero_registers_are_done_and_change_nothing() {
     let counters = (0x323..=0x33F).chain(0xB03..=0xB1F);
-    for number in counters.chain([0x301, 0x30A, 0x10A, 0x180]) {
+    for number in counters.chain([0x301, 0x30A, 0x10A]) {
         let value = if number == 0x301 { 0x8000_0000_0014_1101 } else { 0 };
         for operation in [WRITE, SET, CLEAR] {
             let (hart, answer) = run(&Hart::reset(), operation, number, u64::MAX);

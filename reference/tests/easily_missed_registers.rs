@@ -25,9 +25,9 @@ fn a3_the_old_value_is_what_a_read_shows() {
 #[test]
 fn a5_dropped_bits_take_their_only_value() {
     let kept = |number, value| run(&Hart::reset(), WRITE, number, value).0;
-    assert_eq!(kept(MSTATUS, u64::MAX).mstatus, 0xA_007A_19AA);
+    assert_eq!(kept(MSTATUS, u64::MAX).mstatus, 0xA_007E_19AA);
     assert_eq!(kept(MSTATUS, 0).mstatus, RESET_MSTATUS);
-    assert_eq!(kept(0x302, u64::MAX).medeleg, 0x3FF);
+    assert_eq!(kept(0x302, u64::MAX).medeleg, 0xB3FF);
     assert_eq!(kept(0x303, u64::MAX).mideleg, 0x222);
     assert_eq!(kept(0x304, u64::MAX).mie, 0xAAA);
     assert_eq!(kept(0x305, u64::MAX - 2).mtvec, u64::MAX - 2);
@@ -97,13 +97,13 @@ fn a8_sie_starts_from_what_it_shows() {
 
 #[test]
 fn b8_sstatus_shows_uxl_and_no_sxl() {
-    let given = Hart { mstatus: 0xA_007A_19AA, ..Hart::reset() };
+    let given = Hart { mstatus: 0xA_007E_19AA, ..Hart::reset() };
     let (hart, answer) = run(&given, WRITE, 0x100, 0);
-    assert_eq!(answer, Answer::Value(0x2_0008_0122));
+    assert_eq!(answer, Answer::Value(0x2_000C_0122));
     assert_eq!(hart.mstatus, 0xA_0072_1888);
     let (hart, answer) = run(&Hart::reset(), SET, 0x100, u64::MAX);
     assert_eq!(answer, Answer::Value(0x2_0000_0000));
-    assert_eq!(hart.mstatus, 0xA_0008_0122);
+    assert_eq!(hart.mstatus, 0xA_000C_0122);
 }
 
 #[test]

@@ -2,8 +2,8 @@
 //! readings.
 
 use reference::{
-    HART_WORDS, Hart, KEYS, Map, Refusal, Step, TEXT_LENGTH, form, read_record, replay, restore,
-    save, write_record,
+    Hart, KEYS, Map, Memory, Refusal, Step, TEXT_LENGTH, form, read_record, replay, restore, save,
+    write_record,
 };
 
 fn reset_text() -> [u8; TEXT_LENGTH] {
@@ -12,7 +12,7 @@ fn reset_text() -> [u8; TEXT_LENGTH] {
 
 fn replayed(start: Option<&[u8]>, input: &[u8]) -> String {
     let mut output = Vec::new();
-    replay(start, &mut &input[..], &mut output).unwrap();
+    replay(start, Memory::EMPTY, &mut &input[..], &mut output).unwrap();
     String::from_utf8(output).unwrap()
 }
 
@@ -92,7 +92,7 @@ fn the_form_is_judged_before_the_state() {
 
 #[test]
 fn every_register_has_its_own_line() {
-    for word in 0..HART_WORDS {
+    for word in 0..KEYS.len() {
         let mut words = Hart::reset().to_words();
         words[word] ^= match word {
             0 => 3,

@@ -2,8 +2,11 @@
 
 use reference::{HART_WORDS, Hart, KEYS};
 
+/// The word of satp, which has no key.
+const SATP: usize = HART_WORDS - 1;
+
 fn can_hold(key: &str, value: u64) -> bool {
-    let word = KEYS.iter().position(|&name| name == key).unwrap();
+    let word = KEYS.iter().position(|&name| name == key).unwrap_or(SATP);
     let mut words = Hart::reset().to_words();
     words[word] = value;
     Hart::from_words(&words).can_hold()
@@ -15,7 +18,7 @@ fn registers_within_a_mask() {
         ("pc", !3),
         ("mepc", !3),
         ("sepc", !3),
-        ("medeleg", 0x3FF),
+        ("medeleg", 0xB3FF),
         ("mideleg", 0x222),
         ("mie", 0xAAA),
         ("mip", 0x222),
@@ -36,6 +39,7 @@ fn registers_within_a_mask() {
         ("pmpaddr0", (1 << 54) - 1),
         ("pmpaddr7", (1 << 54) - 1),
         ("pmpaddr15", (1 << 54) - 1),
+        ("satp", 1 << 63 | ((1 << 44) - 1)),
     ] {
         assert!(can_hold(key, 0) && can_hold(key, mask));
         for bit in 0..64 {
@@ -59,12 +63,12 @@ fn mstatus() {
     for bit in 0..64 {
         let holds = match bit {
             12 => false,
-            _ => 0x7A_19AAu64 >> bit & 1 == 1,
+            _ => 0x7E_19AAu64 >> bit & 1 == 1,
         };
         assert_eq!(can_hold("mstatus", 0xA_0000_0000 ^ 1 << bit), holds, "bit {bit}");
     }
-    assert!(can_hold("mstatus", 0xA_007A_19AA));
-    assert!(!can_hold("mstatus", 0xA_007A_19AA ^ 1 << 11));
+    assert!(can_hold("mstatus", 0xA_007E_19AA));
+    assert!(!can_hold("mstatus", 0xA_007E_19AA ^ 1 << 11));
     assert!(!can_hold("mstatus", 0));
 }
 

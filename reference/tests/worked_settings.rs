@@ -6,8 +6,8 @@ mod common;
 use common::{fault_by, granted_by, trapped_by};
 use reference::protection::MEMORY;
 use reference::{
-    Access, Answer, Hart, MACHINE, Map, Mode, NONE, Range, Ruling, SUPERVISOR, Step, USER, Verdict,
-    query, step,
+    Access, Answer, Hart, MACHINE, Map, Memory, Mode, NONE, Range, Ruling, SUPERVISOR, Step, USER,
+    Verdict, query, step,
 };
 
 const TOR: u8 = 1 << 3;
@@ -78,7 +78,8 @@ fn w1_partial_match_faults_in_every_mode() {
             let mut hart = with_entries(&[(NA4 | ALL_RIGHTS, 3)]);
             (hart.mode, hart.medeleg) = (mode, medeleg);
             let mut map = hart.compile();
-            let answer = step(&mut hart, &mut map, Step::from_words(access, 8, 8).unwrap());
+            let answer =
+                step(&mut hart, &mut map, Memory::EMPTY, Step::from_words(access, 8, 8).unwrap());
             let destination = if medeleg == 0 { Mode::Machine } else { Mode::Supervisor };
             assert_eq!(answer, trapped_by(Some(0), cause, destination));
         }
@@ -269,7 +270,7 @@ fn w9_sixteen_entries_make_33_ranges() {
 #[test]
 fn w10_mret() {
     let mut hart = Hart { mstatus: 0xA_0002_0880, mepc: 0x4444, ..Hart::reset() };
-    assert_eq!(step(&mut hart, &mut Map::reset(), Step::Mret), Answer::Done);
+    assert_eq!(step(&mut hart, &mut Map::reset(), Memory::EMPTY, Step::Mret), Answer::Done);
     assert_eq!((hart.mstatus, hart.mode, hart.pc), (0xA_0000_0088, SUPERVISOR, 0x4444));
 }
 
@@ -277,7 +278,7 @@ fn w10_mret() {
 fn w11_vectored_interrupt() {
     for (mtvec, pc) in [(0x8000_0001, 0x8000_001C), (u64::MAX - 2, 0x18)] {
         let mut hart = Hart { mode: USER, mtvec, mie: 0x80, lines: 0x80, ..Hart::reset() };
-        let answer = step(&mut hart, &mut Map::reset(), Step::TakeInterrupt);
+        let answer = step(&mut hart, &mut Map::reset(), Memory::EMPTY, Step::TakeInterrupt);
         assert_eq!(answer, Answer::Decision(true));
         assert_eq!((hart.pc, hart.mode, hart.mcause), (pc, MACHINE, 1 << 63 | 7));
     }
@@ -287,7 +288,8 @@ fn w11_vectored_interrupt() {
 fn w12_cycles() {
     for (mcycle, cycles, expected) in [(u64::MAX, 1, 0), (0, 70_000, 70_000)] {
         let mut hart = Hart { mcycle, ..Hart::reset() };
-        let answer = step(&mut hart, &mut Map::reset(), Step::Elapsed { cycles, retired: 0 });
+        let answer =
+            step(&mut hart, &mut Map::reset(), Memory::EMPTY, Step::Elapsed { cycles, retired: 0 });
         assert_eq!((answer, hart.mcycle), (Answer::Done, expected));
     }
 }

@@ -6,7 +6,7 @@ use mathlib.Core.Bool.{Bool, true, _&&_, and-assoc, and-true}
 use mathlib.Core.List.{List, [], _∷_, _++_}
 use native.Mathlib.Omega.{arith}
 use native.Mathlib.Numerals.{add-one}
-use lib.ListN.{length, getD, drop, set, drop-of-length-le}
+use lib.ListN.{length, getD, take, drop, set, drop-of-length-le}
 use lib.Seq.{drop-cons, sets}
 use Rattle.bits.specs.Lists.{all, elements}
 use Rattle.bits.proofs.Conjunction.{both, join}
@@ -48,6 +48,12 @@ pub elements-are : (l : List ℕ) (n i : ℕ) → length l ≡ i + n → element
 unfolding elements
 elements-are l zero i h = let k : length l ≤ i = omega arith in sym (drop-of-length-le l k)
 elements-are l (suc n) i h = rw (drop-cons l i 0 (omega arith), elements-are l n (i + 1) (omega arith), add-one i)
+
+-- and those before the end a part of it
+pub elements-take : (l : List ℕ) (n i : ℕ) → i + n ≤ length l → elements n i l ≡ take n (drop i l)
+unfolding elements
+elements-take l zero i h = refl
+elements-take l (suc n) i h = rw (drop-cons l i 0 (omega arith), elements-take l n (i + 1) (omega arith), add-one i)
 
 -- a store past the end
 pub set-past : (l : List ℕ) (i v : ℕ) → length l ≤ i → set l i v ≡ l

@@ -11,8 +11,8 @@ use Rattle.steps.specs.declared.Answer.{Answer}
 use Rattle.steps.specs.declared.Answer.the-variants.{Refused}
 use Rattle.steps.specs.Number.{refusalOf}
 use Rattle.state.specs.declared.State.{State}
-use Rattle.state.specs.Hold.{canHold}
-use Rattle.state.specs.Words.{wordsOf, stateOf}
+use Rattle.state.specs.Words.{wordsOf}
+use Rattle.state.specs.Texts.{textState}
 use Rattle.state.specs.Slices.{loaded, stored}
 use Rattle.state.proofs.Back.{words-back}
 use Rattle.state.proofs.SliceLaws.{all-loaded, all-stored}
@@ -23,16 +23,16 @@ use Rattle.text.specs.Text.{readText}
 use Rattle.hart.specs.declared.Hart.{Hart}
 use Rattle.hart.specs.declared.Stepped.{Stepped}
 use Rattle.hart.specs.Steps.{hartWith, handedBack}
-use Rattle.hart.specs.Saved.{savedAnswer, savedBuffer, restoredDone, restoredWords, restored}
+use Rattle.hart.specs.Saved.{savedAnswer, savedBuffer, textHolds, restoredDone, restoredWords, restored}
 use Rattle.capi.specs.Calls.{hartOf, fits, misfit, saveResult, savedText, readBack, restoreResult, restoredHart, restoredMap}
 use Rattle.capi.proofs.CallLaws.{fitting}
 
 module _ (hart text : List ℕ) where
-  pub not-saved : (length hart ≡ 41 → ⊥) → (misfit ≡ saveResult hart text) × (text ≡ savedText hart text)
+  pub not-saved : (length hart ≡ 42 → ⊥) → (misfit ≡ saveResult hart text) × (text ≡ savedText hart text)
   unfolding saveResult savedText
-  not-saved n = (rw (ne-eqb (length hart) 41 n), rw (ne-eqb (length hart) 41 n))
+  not-saved n = (rw (ne-eqb (length hart) 42 n), rw (ne-eqb (length hart) 42 n))
 
-  module _ (e : length hart ≡ 41) {s : State} (es : s ≡ loaded hart) where
+  module _ (e : length hart ≡ 42) {s : State} (es : s ≡ loaded hart) where
     hart-is : hartWith s ≡ hartOf hart
     hart-is = ap (λ (x : State). hartWith x) (es ∙ all-loaded hart e)
 
@@ -54,9 +54,9 @@ module _ (g h : Hart) (m n : Map) (text : List ℕ) where
   -- the answer does not hang on the hart and the map that were given
   pub read-answer : restored g m text .answer ≡ restored h n text .answer
   unfolding restored restoredWords
-  read-answer = go (readText text .ok) (canHold (stateOf (readText text .words)))
+  read-answer = go (readText text .ok) (textHolds (textState (readText text .words)))
     where
-      go : (a b : Bool) → read g m (stateOf (readText text .words)) a b .answer ≡ read h n (stateOf (readText text .words)) a b .answer
+      go : (a b : Bool) → read g m (textState (readText text .words)) a b .answer ≡ read h n (textState (readText text .words)) a b .answer
       go true true = refl
       go true false = refl
       go false b = refl
@@ -64,10 +64,10 @@ module _ (g h : Hart) (m n : Map) (text : List ℕ) where
   -- where there is no refusal, nor does what is read
   pub read-done : refusalOf (restored g m text .answer) ≡ 0 → restored g m text ≡ restored h n text
   unfolding restored restoredWords
-  read-done = go (readText text .ok) (canHold (stateOf (readText text .words)))
+  read-done = go (readText text .ok) (textHolds (textState (readText text .words)))
     where
-      go : (a b : Bool) → refusalOf (read g m (stateOf (readText text .words)) a b .answer) ≡ 0
-          → read g m (stateOf (readText text .words)) a b ≡ read h n (stateOf (readText text .words)) a b
+      go : (a b : Bool) → refusalOf (read g m (textState (readText text .words)) a b .answer) ≡ 0
+          → read g m (textState (readText text .words)) a b ≡ read h n (textState (readText text .words)) a b
       go true true e = refl
       go true false e = absurd (omega (arith, e))
       go false b e = absurd (omega (arith, e))
@@ -75,10 +75,10 @@ module _ (g h : Hart) (m n : Map) (text : List ℕ) where
   -- a refusal leaves hart and map
   pub read-refused : (refusalOf (restored g m text .answer) ≡ 0 → ⊥) → (restored h n text .hart ≡ h) × (restored h n text .map ≡ n)
   unfolding restored restoredWords
-  read-refused = go (readText text .ok) (canHold (stateOf (readText text .words)))
+  read-refused = go (readText text .ok) (textHolds (textState (readText text .words)))
     where
-      go : (a b : Bool) → (refusalOf (read g m (stateOf (readText text .words)) a b .answer) ≡ 0 → ⊥)
-          → (read h n (stateOf (readText text .words)) a b .hart ≡ h) × (read h n (stateOf (readText text .words)) a b .map ≡ n)
+      go : (a b : Bool) → (refusalOf (read g m (textState (readText text .words)) a b .answer) ≡ 0 → ⊥)
+          → (read h n (textState (readText text .words)) a b .hart ≡ h) × (read h n (textState (readText text .words)) a b .map ≡ n)
       go true true e = absurd (e refl)
       go true false e = (refl, refl)
       go false b e = (refl, refl)
@@ -93,7 +93,7 @@ module _ (text hart map : List ℕ) where
   unfolding restoreResult restoredHart restoredMap
   not-restored e = (rw e, (rw e, rw e))
 
-  module _ (t : fits hart map ≡ true) (words : Words 41 hart) (g : Hart) (empty : Map) {s : Stepped} (e : s ≡ restored g empty text) {r : ℕ}
+  module _ (t : fits hart map ≡ true) (words : Words 42 hart) (g : Hart) (empty : Map) {s : Stepped} (e : s ≡ restored g empty text) {r : ℕ}
       (f : r ≡ refusalOf (s .answer)) where
     given-number : r ≡ refusalOf (restored g empty text .answer)
     given-number = f ∙ ap (λ (x : Stepped). refusalOf (x .answer)) e

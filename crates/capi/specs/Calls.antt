@@ -8,12 +8,13 @@ use lib.Seq.{sets}
 use Rattle.pmp.specs.declared.Access.{Access}
 use Rattle.pmp.specs.declared.Access.the-variants.{Fetch, Load, Store}
 use Rattle.pmp.specs.Number.{isMode, modeOf}
-use Rattle.steps.specs.declared.Step.{Step}
 use Rattle.steps.specs.Number.{decisionNumbers, refusalOf}
 use Rattle.steps.specs.Decode.{stepsOf, nameSteps}
+use Rattle.paging.specs.Memory.{Memory}
 use Rattle.state.specs.Words.{wordsOf, stateOf}
 use Rattle.map.specs.declared.Map.{Map}
 use Rattle.map.specs.MapWords.{mapOfWords, mapWords}
+use Rattle.engine.specs.Runs.{Lent, lent}
 use Rattle.hart.specs.declared.Hart.{Hart}
 use Rattle.hart.specs.declared.Stepped.{Stepped}
 use Rattle.hart.specs.Steps.{hartWith}
@@ -21,13 +22,13 @@ use Rattle.hart.specs.Runs.{leftBy, answersBy}
 use Rattle.hart.specs.Queries.{queryAnswer}
 use Rattle.hart.specs.Saved.{savedAnswer, savedBuffer, restored}
 
--- the hart of 41 words in the order of the saved text
+-- the hart of 42 words: those of the saved text in its order, and satp
 abbrev pub hartOf : List ℕ → Hart
 hartOf words = hartWith (stateOf words)
 
--- a hart's slice has 41 words and a map's 100
+-- a hart's slice has 42 words and a map's 100
 abbrev pub fits : List ℕ → List ℕ → Bool
-fits hart map = eqb (length hart) 41 && eqb (length map) 100
+fits hart map = eqb (length hart) 42 && eqb (length map) 100
 
 -- ---- steps
 
@@ -43,7 +44,7 @@ abbrev pub unchanged : List ℕ → List ℕ → List ℕ → Left
 unchanged hart map answers = record { result = 0; hart = hart; map = map; answers = answers }
 
 -- the hart and the map that the steps leave, and their answers, written over what the slice held
-abbrev pub left : Hart → Map → List Step → List ℕ → Left
+abbrev pub left : Hart → Map → List Lent → List ℕ → Left
 left h map steps answers =
     record {
       result = 1;
@@ -56,16 +57,16 @@ left h map steps answers =
 abbrev pub answersFit : List ℕ → List ℕ → Bool
 answersFit steps answers = eqb (3 * length answers) (4 * length steps)
 
--- many steps: the first word of each names it
-unfoldable pub runCall : List ℕ → List ℕ → List ℕ → List ℕ → Left
-runCall hart map steps answers =
+-- many steps: the first word of each names it. One memory is lent to all
+unfoldable pub runCall : List ℕ → List ℕ → Memory → List ℕ → List ℕ → Left
+runCall hart map m steps answers =
     cond (fits hart map && (answersFit steps answers && nameSteps steps))
-    (left (hartOf hart) (mapOfWords map) (stepsOf steps) answers)
+    (left (hartOf hart) (mapOfWords map) (lent m (stepsOf steps)) answers)
     (unchanged hart map answers)
 
 -- one step
-abbrev pub stepCall : List ℕ → List ℕ → ℕ → ℕ → ℕ → List ℕ → Left
-stepCall hart map step a b answer = runCall hart map (step ∷ a ∷ b ∷ []) answer
+abbrev pub stepCall : List ℕ → List ℕ → Memory → ℕ → ℕ → ℕ → List ℕ → Left
+stepCall hart map m step a b answer = runCall hart map m (step ∷ a ∷ b ∷ []) answer
 
 -- ---- the access query
 
@@ -92,12 +93,12 @@ queryAnswered hart map mode kind address size answer =
 abbrev pub misfit : ℕ
 misfit = 2 ^ 64 - 1
 
--- 0, or refusal 3, then 6
+-- 0, or refusal 3, then 6, then 12
 unfoldable pub saveResult : List ℕ → List ℕ → ℕ
-saveResult hart text = cond (eqb (length hart) 41) (refusalOf (savedAnswer (hartOf hart) text)) misfit
+saveResult hart text = cond (eqb (length hart) 42) (refusalOf (savedAnswer (hartOf hart) text)) misfit
 
 unfoldable pub savedText : List ℕ → List ℕ → List ℕ
-savedText hart text = cond (eqb (length hart) 41) (savedBuffer (hartOf hart) text) text
+savedText hart text = cond (eqb (length hart) 42) (savedBuffer (hartOf hart) text) text
 
 -- what reading a text back leaves
 abbrev pub readBack : List ℕ → List ℕ → List ℕ → Stepped

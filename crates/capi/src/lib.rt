@@ -1,4 +1,5 @@
-// The interface for C: harts, maps, steps and answers as 41, 100, three and four words. A call whose slices have another length changes nothing.
+// The interface for C: harts, maps, steps and answers as 42, 100, three and four words. A call whose slices have another length changes nothing. A memory
+// of page tables is words that stand at a physical address; it may have any length.
 mod maps;
 mod query;
 
@@ -9,12 +10,13 @@ ghost use mathlib.Core.Path.{_≡_};
 ghost use mathlib.Core.Bool.{_&&_};
 ghost use lib.Dec.{eqb, leb};
 ghost use Rattle.pmp.specs.Number.{isMode};
+ghost use Rattle.paging.specs.Memory.{memoryAt};
 ghost use Rattle.capi.specs.Calls.{stepCall, runCall, queryResult, queryAnswered, saveResult, savedText, restoreResult, restoredHart, restoredMap};
 
 fn fit(hart: usize, map: usize) -> bool
-    ensures { λ r. ⌜ r ≡ (eqb hart 41 && eqb map 100) ⌝ }
+    ensures { λ r. ⌜ r ≡ (eqb hart 42 && eqb map 100) ⌝ }
 {
-    (hart == 41) & (map == 100)
+    (hart == 42) & (map == 100)
 }
 
 fn queryable(mode: u64, kind: u64) -> bool
@@ -28,18 +30,24 @@ fn queryable(mode: u64, kind: u64) -> bool
 pub extern "C" fn tegrwyllt_step(
     hart: &mut [u64],
     map: &mut [u64],
+    memory: &[u64],
+    base: u64,
     step: u64,
     a: u64,
     b: u64,
     answer: &mut [u64],
 ) -> u64
-    ensures { λ r. ⌜ r ≡ stepCall (now (hart .entry)) (now (map .entry)) step a b (now (answer .entry)) .result ⌝ }
-    ensures { λ _. ⌜ now (hart .exit) ≡ stepCall (now (hart .entry)) (now (map .entry)) step a b (now (answer .entry)) .hart ⌝ }
-    ensures { λ _. ⌜ now (map .exit) ≡ stepCall (now (hart .entry)) (now (map .entry)) step a b (now (answer .entry)) .map ⌝ }
-    ensures { λ _. ⌜ now (answer .exit) ≡ stepCall (now (hart .entry)) (now (map .entry)) step a b (now (answer .entry)) .answers ⌝ }
+    ensures { λ r. ⌜ r ≡ stepCall (now (hart .entry)) (now (map .entry)) (memoryAt (now (memory .entry)) base) step a b (now (answer .entry)) .result ⌝ }
+    ensures { λ _. ⌜ now (hart .exit) ≡ stepCall (now (hart .entry)) (now (map .entry)) (memoryAt (now (memory .entry)) base) step a b (now (answer .entry)) .hart ⌝ }
+    ensures { λ _. ⌜ now (map .exit) ≡ stepCall (now (hart .entry)) (now (map .entry)) (memoryAt (now (memory .entry)) base) step a b (now (answer .entry)) .map ⌝ }
+    ensures { λ _. ⌜ now (answer .exit) ≡ stepCall (now (hart .entry)) (now (map .entry)) (memoryAt (now (memory .entry)) base) step a b (now (answer .entry)) .answers ⌝ }
 {
+    // Told at once. Behind a test the arguments on the stack are read one by one; together, as pairs, they would be waited for.
+    if 17 < step {
+        return 0;
+    }
     let numbers = [step, a, b];
-    tegrwyllt_run(hart, map, &numbers, answer)
+    tegrwyllt_run(hart, map, memory, base, &numbers, answer)
 }
 
 // Steps in order, each given what the one before left: three words for each step, and four for its answer. 1, or 0 where a length or a step's number is
@@ -48,19 +56,21 @@ pub extern "C" fn tegrwyllt_step(
 pub extern "C" fn tegrwyllt_run(
     hart: &mut [u64],
     map: &mut [u64],
+    memory: &[u64],
+    base: u64,
     steps: &[u64],
     answers: &mut [u64],
 ) -> u64
-    ensures { λ r. ⌜ r ≡ runCall (now (hart .entry)) (now (map .entry)) (now (steps .entry)) (now (answers .entry)) .result ⌝ }
-    ensures { λ _. ⌜ now (hart .exit) ≡ runCall (now (hart .entry)) (now (map .entry)) (now (steps .entry)) (now (answers .entry)) .hart ⌝ }
-    ensures { λ _. ⌜ now (map .exit) ≡ runCall (now (hart .entry)) (now (map .entry)) (now (steps .entry)) (now (answers .entry)) .map ⌝ }
-    ensures { λ _. ⌜ now (answers .exit) ≡ runCall (now (hart .entry)) (now (map .entry)) (now (steps .entry)) (now (answers .entry)) .answers ⌝ }
+    ensures { λ r. ⌜ r ≡ runCall (now (hart .entry)) (now (map .entry)) (memoryAt (now (memory .entry)) base) (now (steps .entry)) (now (answers .entry)) .result ⌝ }
+    ensures { λ _. ⌜ now (hart .exit) ≡ runCall (now (hart .entry)) (now (map .entry)) (memoryAt (now (memory .entry)) base) (now (steps .entry)) (now (answers .entry)) .hart ⌝ }
+    ensures { λ _. ⌜ now (map .exit) ≡ runCall (now (hart .entry)) (now (map .entry)) (memoryAt (now (memory .entry)) base) (now (steps .entry)) (now (answers .entry)) .map ⌝ }
+    ensures { λ _. ⌜ now (answers .exit) ≡ runCall (now (hart .entry)) (now (map .entry)) (memoryAt (now (memory .entry)) base) (now (steps .entry)) (now (answers .entry)) .answers ⌝ }
 {
     if !(fit(hart.len(), map.len())
         & ((3 * answers.len() == 4 * steps.len()) & steps::name_steps(steps))) {
         return 0;
     }
-    let remap = engine::run(hart, steps, answers);
+    let remap = engine::run(hart, memory, base, steps, answers);
     maps::renew(remap, hart, map);
     1
 }
@@ -91,13 +101,13 @@ pub extern "C" fn tegrwyllt_query(
 // What a call gives where the hart or the map has another length: no refusal has this number.
 const MISFIT: u64 = 0xFFFFFFFFFFFFFFFF;
 
-// Saves a hart to the front of a buffer. 0, or the number of the refusal, 3 before 6.
+// Saves a hart to the front of a buffer. 0, or the number of the refusal, 3 before 6 before 12.
 #[no_mangle]
 pub extern "C" fn tegrwyllt_save(hart: &[u64], text: &mut [u8]) -> u64
     ensures { λ r. ⌜ r ≡ saveResult (now (hart .entry)) (now (text .entry)) ⌝ }
     ensures { λ _. ⌜ now (text .exit) ≡ savedText (now (hart .entry)) (now (text .entry)) ⌝ }
 {
-    if hart.len() != 41 {
+    if hart.len() != 42 {
         return MISFIT;
     }
     let given = Hart {

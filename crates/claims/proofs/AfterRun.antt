@@ -12,13 +12,13 @@ use Rattle.bits.specs.Lists.{elements}
 use Rattle.pmp.specs.declared.Mode.{Mode}
 use Rattle.pmp.specs.declared.Access.{Access}
 use Rattle.pmp.specs.declared.Decision.the-variants.{Refused}
-use Rattle.steps.specs.declared.Step.{Step}
 use Rattle.steps.specs.Number.{refusalOf}
 use Rattle.steps.specs.Decode.{stepsOf, nameSteps}
+use Rattle.paging.specs.Memory.{Memory}
 use Rattle.state.specs.declared.State.{State}
 use Rattle.state.specs.Words.{wordsOf, stateOf}
 use Rattle.map.specs.declared.Map.{Map}
-use Rattle.engine.specs.Runs.{afterAll, answersOf, anyRemaps, Ran, ran}
+use Rattle.engine.specs.Runs.{Lent, lent, afterAll, answersOf, anyRemaps, Ran, ran}
 use Rattle.hart.specs.declared.Hart.{Hart}
 use Rattle.hart.specs.declared.Stepped.{Stepped}
 use Rattle.hart.specs.Steps.{mapFor, hartWith, resetMapped}
@@ -31,25 +31,26 @@ use Rattle.claims.proofs.Faithfulness.{back, text-sound, query-after}
 -- ---- what a run leaves
 
 -- the state, and whether a step asked for a fresh map, after these steps
-abbrev Leaves : State → List Step → Ran → Type 0
+abbrev Leaves : State → List Lent → Ran → Type 0
 Leaves s steps r = (r .state ≡ afterAll s steps) × (r .remap ≡ anyRemaps s steps)
 
-words-count : (s : State) → eqb (length (wordsOf s)) 41 ≡ true
+words-count : (s : State) → eqb (length (wordsOf s)) 42 ≡ true
 unfolding wordsOf elements
 words-count s = refl
 
-run-leaves : (s : State) → stateOf (wordsOf s) ≡ s → (numbers answers : List ℕ) → Leaves s (stepsIn numbers) (ran (wordsOf s) numbers answers)
+run-leaves : (s : State) → stateOf (wordsOf s) ≡ s → (m : Memory) (numbers answers : List ℕ)
+    → Leaves s (stepsIn m numbers) (ran (wordsOf s) m numbers answers)
 unfolding ran fold anyStep
-run-leaves s e numbers answers = rw (words-count s, e) (go (nameSteps numbers))
+run-leaves s e m numbers answers = rw (words-count s, e) (go (nameSteps numbers))
   where
     go : (b : Bool)
-        → Leaves s (cond b (stepsOf numbers) [])
+        → Leaves s (cond b (lent m (stepsOf numbers)) [])
         (cond b
         (record {
-          remap = anyRemaps s (stepsOf numbers);
-          words = wordsOf (afterAll s (stepsOf numbers));
-          answers = sets answers 0 (answersOf s (stepsOf numbers));
-          state = afterAll s (stepsOf numbers);
+          remap = anyRemaps s (lent m (stepsOf numbers));
+          words = wordsOf (afterAll s (lent m (stepsOf numbers)));
+          answers = sets answers 0 (answersOf s (lent m (stepsOf numbers)));
+          state = afterAll s (lent m (stepsOf numbers));
         })
         (record { remap = false; words = wordsOf s; answers = answers; state = s }))
     go true = (refl, refl)
@@ -57,25 +58,25 @@ run-leaves s e numbers answers = rw (words-count s, e) (go (nameSteps numbers))
 
 -- ---- the hart and map left, from what the engine gave on the words of the state
 
-module _ (h : Hart) (map : Map) (numbers : List ℕ) {w : List ℕ} (ew : w ≡ wordsOf (h .state)) (ed : stateOf w ≡ h .state) (answers : List ℕ)
-    {r : Bool} (er : r ≡ ran w numbers answers .remap) {s : State} (es : s ≡ ran w numbers answers .state) where
-  leaves : Leaves (h .state) (stepsIn numbers) (ran w numbers answers)
-  leaves = rw ew (run-leaves (h .state) (ap stateOf (sym ew) ∙ ed) numbers answers)
+module _ (h : Hart) (map : Map) (m : Memory) (numbers : List ℕ) {w : List ℕ} (ew : w ≡ wordsOf (h .state)) (ed : stateOf w ≡ h .state) (answers : List ℕ)
+    {r : Bool} (er : r ≡ ran w m numbers answers .remap) {s : State} (es : s ≡ ran w m numbers answers .state) where
+  leaves : Leaves (h .state) (stepsIn m numbers) (ran w m numbers answers)
+  leaves = rw ew (run-leaves (h .state) (ap stateOf (sym ew) ∙ ed) m numbers answers)
 
-  state-is : s ≡ afterAll (h .state) (stepsIn numbers)
+  state-is : s ≡ afterAll (h .state) (stepsIn m numbers)
   state-is = es ∙ leaves .0
 
-  remap-is : r ≡ anyRemaps (h .state) (stepsIn numbers)
+  remap-is : r ≡ anyRemaps (h .state) (stepsIn m numbers)
   remap-is = er ∙ leaves .1
 
-  pub left-by : (b : Bool) → r ≡ b → {m : Map} → m ≡ cond b (mapFor (s .pmp)) map → with (hartWith s) m ≡ leftBy h map (stepsIn numbers)
+  pub left-by : (b : Bool) → r ≡ b → {n : Map} → n ≡ cond b (mapFor (s .pmp)) map → with (hartWith s) n ≡ leftBy h map (stepsIn m numbers)
   left-by b e p =
       (λ j. with (hartWith (state-is j)) ((p ∙ (λ i. cond ((sym e ∙ remap-is) i) (mapFor (state-is i .pmp)) map)) j))
-      ∙ sym (left-is (stepsIn numbers) h map)
+      ∙ sym (left-is (stepsIn m numbers) h map)
 
 -- ---- from what reading a text back gave
 
-module _ (text : List ℕ) (steps : List Step) (mode : Mode) (access : Access) (address size : ℕ) {read : Stepped} (known : read ≡ readBack text)
+module _ (text : List ℕ) (steps : List Lent) (mode : Mode) (access : Access) (address size : ℕ) {read : Stepped} (known : read ≡ readBack text)
     {refusal : ℕ} (told : refusal ≡ refusalOf (read .answer)) where
   refusal-is : refusal ≡ refusalOf (readBack text .answer)
   refusal-is = told ∙ ap (λ (s : Stepped). refusalOf (s .answer)) known

@@ -12,7 +12,7 @@ use Rattle.pmp.proofs.RuleLaws.{beyond-faults}
 use Rattle.protection.specs.Configs.{packed}
 use Rattle.state.specs.declared.State.{State}
 use Rattle.state.specs.Hold.{resetState}
-use Rattle.state.specs.Words.{wordsOf}
+use Rattle.state.specs.Words.{textWords}
 use Rattle.map.proofs.Boundaries.{boundaries}
 use Rattle.text.specs.Text.{keys, textOf}
 use Rattle.text.proofs.Form.{text-length}
@@ -21,10 +21,10 @@ use Rattle.hart.specs.Steps.{hartWith}
 use Rattle.hart.specs.Saved.{textFor}
 use Rattle.claims.specs.SavedLines.{keyed, keyedText, resetLines, joined}
 use Rattle.claims.specs.Consequences.{LowestOwner, Consequences}
-use Rattle.claims.proofs.OneValue.{zero-step, zero-readable, misa-step, fixed-step, fixed-writable, lowest-first, config-steps}
+use Rattle.claims.proofs.OneValue.{zero-step, zero-readable, misa-step, fixed-step, fixed-writable, satp-illegal, satp-step, lowest-first, config-steps}
 use Rattle.claims.proofs.Counting.{mcycle-left, minstret-left, elapsed-counts}
 use Rattle.claims.proofs.InterruptOrder.{takes-first}
-use Rattle.claims.proofs.OneAccess.{one-load, one-store, one-fetch}
+use Rattle.claims.proofs.OneAccess.{one-load, one-store, one-fetch, access-answered}
 use Rattle.claims.proofs.NoAccess.{no-access}
 use Rattle.claims.proofs.Deciding.{entry-decides, cause-for, none-decides, effective-mode}
 use Rattle.claims.proofs.Querying.{count-read, range-found, range-missing, sizes, lowest-faults, query-one, query-two, one-range, query-beyond}
@@ -32,7 +32,7 @@ use Rattle.claims.proofs.Querying.{count-read, range-found, range-missi
 -- ---- the saved text
 
 saved-lines : (s : State) → textFor (hartWith s) ≡ keyedText (keyed s)
-unfolding keys linesOf textOf wordsOf elements
+unfolding keys linesOf textOf elements
 saved-lines s = refl
 
 word-digits : hexDigits 16 0x0123456789ABCDEF ≡ bytesOf "0123456789abcdef"
@@ -44,7 +44,7 @@ unfolding packed
 packed-bytes = refl
 
 reset-text : textFor (hartWith resetState) ≡ joined resetLines
-unfolding bytesOf hexDigits lineOf linesOf keys textOf packed elements wordsOf
+unfolding bytesOf hexDigits lineOf linesOf keys textOf packed elements
 reset-text = refl
 
 -- ---- owners
@@ -69,6 +69,8 @@ consequences =
       config-steps = config-steps;
       ignores-writes = fixed-step;
       writable = fixed-writable;
+      satp-illegal = satp-illegal;
+      satp-step = satp-step;
       elapsed-counts = elapsed-counts;
       mcycle-left = mcycle-left;
       minstret-left = minstret-left;
@@ -76,6 +78,7 @@ consequences =
       load = one-load;
       store = one-store;
       fetch = one-fetch;
+      access-answers = λ h map m access address size held. access-answered h map m address size held access;
       no-access = no-access;
       beyond = λ spans cfgs mode access address size p h. beyond-faults spans cfgs mode access address size p h ∙ cause-for access 16;
       two-owners = λ spans cfgs mode access address size low byte below t l k other.
@@ -90,7 +93,7 @@ consequences =
       effective-mode = effective-mode;
       mode-numbers = (refl, refl, refl);
       owner = owner;
-      lines = λ s. (saved-lines s, refl, text-length (wordsOf s));
+      lines = λ s. (saved-lines s, refl, text-length (textWords s));
       digits = word-digits;
       reset-text = reset-text;
       text-read = read-text;

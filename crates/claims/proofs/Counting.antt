@@ -7,8 +7,7 @@ use Rattle.bits.specs.Mask.{within}
 use Rattle.bits.proofs.Conjunction.{by-test}
 use Rattle.pmp.specs.declared.Access.{Access}
 use Rattle.pmp.specs.declared.Access.the-variants.{Fetch, Load, Store}
-use Rattle.pmp.specs.declared.Decision.{Decision}
-use Rattle.pmp.specs.Rule.{none, checked}
+use Rattle.pmp.specs.Rule.{none}
 use Rattle.steps.specs.declared.Level.{Level}
 use Rattle.steps.specs.declared.Level.the-variants.{Supervisor, Machine}
 use Rattle.steps.specs.declared.Trap.{Trap}
@@ -23,9 +22,11 @@ use Rattle.registers.specs.declared.Counters.{Counters}
 use Rattle.registers.specs.declared.Registers.{Registers}
 use Rattle.registers.specs.Masks.{linesMask}
 use Rattle.registers.specs.Hold.{aligned}
-use Rattle.registers.specs.Effective.{effectiveMode}
 use Rattle.protection.specs.Read.{isPmp}
 use Rattle.protection.proofs.SameLaws.{same-pmp-refl}
+use Rattle.paging.specs.declared.Reached.{Reached}
+use Rattle.paging.specs.Memory.{Memory}
+use Rattle.paging.specs.Access.{reached}
 use Rattle.state.specs.declared.State.{State}
 use Rattle.state.specs.Hold.{canHold}
 use Rattle.csr.specs.Permit.{attemptsWrite, illegal}
@@ -40,7 +41,7 @@ use Rattle.trap.specs.Return.{returned, mayReturn, returnStep, mayWait, waited}
 use Rattle.trap.specs.Time.{advanced, elapsed}
 use Rattle.trap.specs.Events.{eventStep}
 use Rattle.map.specs.declared.Map.{Map}
-use Rattle.engine.specs.Effects.{Effect, refused, csrStep, accessDecided, accessAt, accessStep, eventEffect, stepRule}
+use Rattle.engine.specs.Effects.{Effect, refused, csrStep, accessDecided, contextOf, accessAt, accessStep, eventEffect, stepRule}
 use Rattle.hart.specs.declared.Hart.{Hart}
 use Rattle.hart.specs.declared.Stepped.{Stepped}
 use Rattle.hart.specs.Steps.{hartWith, handedBack, stepped}
@@ -127,37 +128,37 @@ module _ (number : ℕ) (counter : Counters → ℕ) (written : WriteLeaves numb
       by-test Left (ltb 4095 n) _ _ (λ t. refl)
       (λ t.
       by-test Left (illegal (s .registers) op n) _ _ (λ u. ap counter (raised-leaves (s .registers) 2 0 none))
-      (λ u. by-test Left (isPmp n) _ _ (λ v. refl) (λ v. operated-leaves op n operand _ u e)))
+      (λ u.
+      by-test Left (isPmp n) _ _ (λ v. refl) (λ v. by-test Left (eqb n 0x180) _ _ (λ w. refl) (λ w. operated-leaves op n operand _ u e))))
 
-  decided-leaves : (address : ℕ) (d : Decision) → Left (accessDecided s address d)
-  decided-leaves address (Decision.Granted entry) = refl
-  decided-leaves address (Decision.Fault cause entry) = ap counter (raised-leaves (s .registers) cause address entry)
-  decided-leaves address (Decision.Refused n) = refl
+  decided-leaves : (d : Reached) → Left (accessDecided s d)
+  decided-leaves (Reached.Granted entry) = refl
+  decided-leaves (Reached.Fault cause tval entry) = ap counter (raised-leaves (s .registers) cause tval entry)
+  decided-leaves (Reached.Refused n) = refl
 
-  at-leaves : (access : Access) (address size : ℕ) → Left (accessAt s access address size)
+  at-leaves : (m : Memory) (access : Access) (address size : ℕ) → Left (accessAt s m access address size)
   unfolding accessAt
-  at-leaves access address size =
-      decided-leaves address (checked (s .pmp .cfgs) (s .pmp .addrs) (effectiveMode (s .registers) access) access address size)
+  at-leaves m access address size = decided-leaves (reached (s .pmp) m (contextOf s access) address size)
 
-  access-leaves : (access : Access) (address size : ℕ) → Left (accessStep s access address size)
-  access-leaves Fetch address size = at-leaves Fetch (s .registers .pc) 4
-  access-leaves Load address size = at-leaves Load address size
-  access-leaves Store address size = at-leaves Store address size
+  access-leaves : (m : Memory) (access : Access) (address size : ℕ) → Left (accessStep s m access address size)
+  access-leaves m Fetch address size = at-leaves m Fetch (s .registers .pc) 4
+  access-leaves m Load address size = at-leaves m Load address size
+  access-leaves m Store address size = at-leaves m Store address size
 
   -- refusal 3 leaves all
   held-leaves : (e : Effect) → (canHold s ≡ true → Left e) → Left (cond (canHold s) e (refused s 3))
   held-leaves e p = by-test Left (canHold s) e (refused s 3) p (λ t. refl)
 
-  rule-leaves : (step : Step) → mayChange number s step ≡ false → Left (stepRule s step)
+  rule-leaves : (m : Memory) (step : Step) → mayChange number s step ≡ false → Left (stepRule s m step)
   unfolding stepRule
-  rule-leaves Reset e = absurd (true≢false e)
-  rule-leaves (Csr op n operand) e = held-leaves (csrStep s op n operand) (λ t. csr-leaves op n operand (rw t at e))
-  rule-leaves (AccessStep access address size) e = held-leaves (accessStep s access address size) (λ t. access-leaves access address size)
-  rule-leaves (EventStep event) e = held-leaves (eventEffect s event) (λ t. ap counter (event-leaves (s .registers) event (rw t at e)))
+  rule-leaves m Reset e = absurd (true≢false e)
+  rule-leaves m (Csr op n operand) e = held-leaves (csrStep s op n operand) (λ t. csr-leaves op n operand (rw t at e))
+  rule-leaves m (AccessStep access address size) e = held-leaves (accessStep s m access address size) (λ t. access-leaves m access address size)
+  rule-leaves m (EventStep event) e = held-leaves (eventEffect s event) (λ t. ap counter (event-leaves (s .registers) event (rw t at e)))
 
 others-leave : (number : ℕ) (counter : Counters → ℕ) → WriteLeaves number counter → OthersLeave number counter
-others-leave number counter written h map step e =
-    ap (λ (x : Stepped). counter (x .hart .state .registers .counters)) (step-parts h map step) ∙ rule-leaves number counter written (h .state) step e
+others-leave number counter written h map m step e =
+    ap (λ (x : Stepped). counter (x .hart .state .registers .counters)) (step-parts h map m step) ∙ rule-leaves number counter written (h .state) m step e
 
 pub mcycle-left : OthersLeave 0xB00 (λ c. c .mcycle)
 mcycle-left = others-leave 0xB00 (λ c. c .mcycle) mcycle-written
@@ -167,7 +168,7 @@ minstret-left = others-leave 0xB02 (λ c. c .minstret) minstret-written
 
 -- ---- elapsed
 
-pub elapsed-counts : (h : Hart) (map : Map) (cycles retired : ℕ) → canHold (h .state) ≡ true
-    → stepped h map (EventStep (Elapsed cycles retired)) ≡ handedBack (hartWith (elapsedBy h cycles retired)) map Done
+pub elapsed-counts : (h : Hart) (map : Map) (m : Memory) (cycles retired : ℕ) → canHold (h .state) ≡ true
+    → stepped h map m (EventStep (Elapsed cycles retired)) ≡ handedBack (hartWith (elapsedBy h cycles retired)) map Done
 unfolding stepped stepRule elapsed
-elapsed-counts h map cycles retired p = rw (p, same-pmp-refl (h .state .pmp))
+elapsed-counts h map m cycles retired p = rw (p, same-pmp-refl (h .state .pmp))

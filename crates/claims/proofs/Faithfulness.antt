@@ -7,7 +7,7 @@ use mathlib.Core.List.{List}
 use mathlib.Core.Logic.{⊎-elim}
 use native.Mathlib.Omega.{arith}
 use lib.ListN.{take}
-use Rattle.bits.proofs.Conjunction.{by-test}
+use Rattle.bits.proofs.Conjunction.{both, by-test}
 use Rattle.pmp.specs.declared.Mode.{Mode}
 use Rattle.pmp.specs.declared.Access.{Access}
 use Rattle.pmp.specs.declared.Decision.{Decision}
@@ -15,11 +15,10 @@ use Rattle.pmp.specs.declared.Decision.the-variants.{Refused}
 use Rattle.pmp.specs.Entry.{entrySpan}
 use Rattle.pmp.specs.Rule.{isSize, byteRule, checked}
 use Rattle.pmp.proofs.Answered.{rule-answers, unrefused}
-use Rattle.steps.specs.declared.Step.{Step}
 use Rattle.steps.specs.declared.Answer.the-variants.{Refused as RefusedAnswer}
 use Rattle.steps.specs.Number.{refusalOf}
 use Rattle.state.specs.Hold.{canHold}
-use Rattle.state.specs.Words.{stateOf}
+use Rattle.state.specs.Texts.{hasText, textState}
 use Rattle.state.proofs.Held.{reset-holds}
 use Rattle.map.specs.declared.Map.{Map}
 use Rattle.map.specs.Ranges.{IsMap}
@@ -30,7 +29,7 @@ use Rattle.map.proofs.MapLaws.{is-map, entry-below, compiled-ranges}
 use Rattle.map.proofs.Boundaries.{boundaries}
 use Rattle.map.proofs.QueryLaws.{query-rule, query-refused, same-ranges}
 use Rattle.text.specs.Text.{readText}
-use Rattle.engine.specs.Runs.{afterAll}
+use Rattle.engine.specs.Runs.{Lent, afterAll}
 use Rattle.engine.proofs.Holds.{after-holds}
 use Rattle.hart.specs.declared.Hart.{Hart}
 use Rattle.hart.specs.declared.Mapped.{Mapped}
@@ -38,7 +37,7 @@ use Rattle.hart.specs.declared.Stepped.{Stepped}
 use Rattle.hart.specs.Steps.{mapFor, hartWith, handedBack, resetMapped}
 use Rattle.hart.specs.Queries.{queryAnswer}
 use Rattle.hart.specs.Runs.{with}
-use Rattle.hart.specs.Saved.{restoredDone, restoredWords, restored}
+use Rattle.hart.specs.Saved.{textHolds, restoredDone, restoredWords, restored}
 use Rattle.hart.proofs.LeftLaws.{own-map}
 use Rattle.claims.specs.Faithful.{FromText, Start, left, pmpAfter, spansAfter, queryAfter, FaithfulAfter, SameRanges, Faithful}
 use Rattle.claims.specs.AfterRun.{ruleAfter}
@@ -60,8 +59,8 @@ module _ (h : Hart) (map : Map) where
   words-sound : (words : List ℕ) → Back (restoredWords h map words)
   unfolding restoredWords
   words-sound words =
-      by-test Back (canHold (stateOf words)) (restoredDone (stateOf words)) (handedBack h map (RefusedAnswer 5))
-      (λ q e. record { held = q; own = refl })
+      by-test Back (textHolds (textState words)) (restoredDone (textState words)) (handedBack h map (RefusedAnswer 5))
+      (λ q e. record { held = both (canHold (textState words)) (hasText (textState words)) q .0; own = refl })
       (λ q e. absurd (omega (arith, e)))
 
   pub text-sound : (text : List ℕ) → Back (restored h map text)
@@ -93,7 +92,7 @@ own-query h mode access address size p =
     (λ q. query-rule cfgs mode access address size addrs q)
     (λ q. query-refused cfgs mode access address size (mapFor (h .state .pmp)) q))
 
-module _ (start : Mapped) (sound : Sound start) (steps : List Step) where
+module _ (start : Mapped) (sound : Sound start) (steps : List Lent) where
   left-own : left start steps ≡ with (hartWith (afterAll (start .hart .state) steps)) (mapFor (pmpAfter start steps))
   left-own = own-map (start .hart) (start .map) steps (sound .own)
 

@@ -24,6 +24,7 @@ use Rattle.trap.specs.declared.Choice.the-variants.{Take, Nothing}
 use Rattle.trap.specs.declared.Outcome.{Outcome}
 use Rattle.trap.specs.Interrupt.{admits, takeable, takeableTo, firstOf, priority, orElse, machineBoundFirst, takenBy, interruptTaken}
 use Rattle.trap.proofs.First.{none-chosen, at-head, passes}
+use Rattle.paging.specs.Memory.{Memory}
 use Rattle.map.specs.declared.Map.{Map}
 use Rattle.engine.specs.Effects.{withRegisters, stepRule}
 use Rattle.hart.specs.declared.Hart.{Hart}
@@ -133,19 +134,19 @@ module _ (r : Registers) where
 abbrev left : Hart → Map → Outcome → Stepped
 left h map o = handedBack (hartWith (withRegisters (h .state) (o .registers))) map (o .answer)
 
-step-seven : (h : Hart) (map : Map) → canHold (h .state) ≡ true
-    → stepped h map (EventStep TakeInterrupt) ≡ left h map (takenBy (h .state .registers) (machineBoundFirst (h .state .registers)))
+step-seven : (h : Hart) (map : Map) (m : Memory) → canHold (h .state) ≡ true
+    → stepped h map m (EventStep TakeInterrupt) ≡ left h map (takenBy (h .state .registers) (machineBoundFirst (h .state .registers)))
 unfolding stepped stepRule interruptTaken
-step-seven h map p = rw (p, same-pmp-refl (h .state .pmp))
+step-seven h map m p = rw (p, same-pmp-refl (h .state .pmp))
 
-pub takes-first : (h : Hart) (map : Map) → canHold (h .state) ≡ true → TakesFirst h map (stepped h map (EventStep TakeInterrupt))
-takes-first h map p = go (machineBoundFirst r) refl (chosen-right r _ _ refl refl)
+pub takes-first : (h : Hart) (map : Map) (m : Memory) → canHold (h .state) ≡ true → TakesFirst h map (stepped h map m (EventStep TakeInterrupt))
+takes-first h map m p = go (machineBoundFirst r) refl (chosen-right r _ _ refl refl)
   where
     r : Registers
     r = h .state .registers
 
-    go : (c : Choice) → machineBoundFirst r ≡ c → Right r (machineBoundFirst r) → TakesFirst h map (stepped h map (EventStep TakeInterrupt))
+    go : (c : Choice) → machineBoundFirst r ≡ c → Right r (machineBoundFirst r) → TakesFirst h map (stepped h map m (EventStep TakeInterrupt))
     go (Take i) e w =
         let v = rw e at w in
-        inl (record { interrupt = i; ordered = v .0; takeable = v .1; first = v .2; entry = step-seven h map p ∙ ap (λ (c : Choice). left h map (takenBy r c)) e })
-    go Nothing e w = inr (record { none = rw e at w; unchanged = step-seven h map p ∙ ap (λ (c : Choice). left h map (takenBy r c)) e })
+        inl (record { interrupt = i; ordered = v .0; takeable = v .1; first = v .2; entry = step-seven h map m p ∙ ap (λ (c : Choice). left h map (takenBy r c)) e })
+    go Nothing e w = inr (record { none = rw e at w; unchanged = step-seven h map m p ∙ ap (λ (c : Choice). left h map (takenBy r c)) e })

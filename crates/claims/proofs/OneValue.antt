@@ -1,4 +1,4 @@
--- Registers that read one value and ignore writes: any CSR step on one, where it is not illegal. What pmpcfg0 and pmpcfg2 read. Assumes nothing.
+-- Registers that read one value and ignore writes: any CSR step on one, where it is not illegal. Steps on satp. What pmpcfg0 and pmpcfg2 read. Assumes nothing.
 use Prim.Native.Nat.{ℕ, suc, _+_, _-_, _*_, _/_, _%_, _^_}
 use mathlib.Core.Path.{_≡_, refl, sym, ap, _∙_}
 use mathlib.Core.Bool.{Bool, true, false, not, _&&_, _||_, false≢true, and-false, or-false}
@@ -15,20 +15,22 @@ use Rattle.pmp.proofs.SearchLaws.{every-passes}
 use Rattle.steps.specs.declared.Operation.{Operation}
 use Rattle.steps.specs.declared.Operation.the-variants.{Read}
 use Rattle.steps.specs.declared.Step.the-variants.{Csr}
+use Rattle.steps.specs.declared.Answer.the-variants.{DoneValue}
 use Rattle.registers.specs.declared.Registers.{Registers}
 use Rattle.registers.specs.Update.{withFlow}
 use Rattle.protection.specs.Configs.{packed}
 use Rattle.protection.specs.Read.{isPmp, pmpRead}
 use Rattle.protection.proofs.SameLaws.{same-pmp-refl}
+use Rattle.paging.specs.Memory.{Memory}
 use Rattle.state.specs.Hold.{canHold}
-use Rattle.csr.specs.Permit.{between, present, readOnly, attemptsWrite, translationTrapped, illegal}
+use Rattle.csr.specs.Permit.{between, present, readOnly, attemptsWrite, illegal}
 use Rattle.csr.specs.Show.{registerRead}
 use Rattle.csr.specs.Store.{registersWritten}
 use Rattle.csr.specs.Operate.{registersOperated}
 use Rattle.map.specs.declared.Map.{Map}
-use Rattle.engine.specs.Effects.{csrStep, stepRule}
+use Rattle.engine.specs.Effects.{withSatp, satpOperated, csrStep, stepRule}
 use Rattle.hart.specs.declared.Hart.{Hart}
-use Rattle.hart.specs.Steps.{stepped}
+use Rattle.hart.specs.Steps.{hartWith, handedBack, stepped}
 use Rattle.claims.specs.Consequences.{listed, zeroNumbers, readsZero, fixedNumbers, ignoresWrites, movedOn}
 
 -- ---- numbers in ranges: what computes to true at each of them holds of any
@@ -53,10 +55,10 @@ module _ (test : ℕ → Bool) where
 apart : (test : ℕ → Bool) (n k : ℕ) → test n ≡ true → test k ≡ false → eqb n k ≡ false
 apart test n k p q = not-true-false (eqb n k) (λ e. contradiction (ap test (sym (eqb-true n k e)) ∙ p) q)
 
--- ---- no number of either list is above 4095 or of protection
+-- ---- no number of either list is above 4095, of protection or that of satp
 
 abbrev plainNumber : ℕ → Bool
-plainNumber n = not (ltb 4095 n) && not (isPmp n)
+plainNumber n = not (ltb 4095 n) && (not (isPmp n) && not (eqb n 0x180))
 
 zero-plain : everyListed plainNumber zeroNumbers ≡ true
 unfolding everyByte
@@ -82,32 +84,33 @@ fixed-written r n value p = simp (apart ignoresWrites n)
 
 -- ---- the step
 
-module _ (h : Hart) (map : Map) (op : Operation) (n operand : ℕ) (held : canHold (h .state) ≡ true)
+module _ (h : Hart) (map : Map) (m : Memory) (op : Operation) (n operand : ℕ) (held : canHold (h .state) ≡ true)
     (legal : illegal (h .state .registers) op n ≡ false) where
   -- a step on a register that no write changes
   unwritten-step : plainNumber n ≡ true → ((value : ℕ) → registersWritten (h .state .registers) n value ≡ h .state .registers)
-      → stepped h map (Csr op n operand) ≡ movedOn h map (registerRead (h .state .registers) n)
+      → stepped h map m (Csr op n operand) ≡ movedOn h map (registerRead (h .state .registers) n)
   unfolding stepped stepRule csrStep
   unwritten-step p unwritten =
       let r = h .state .registers in
-      let w = both (not (ltb 4095 n)) (not (isPmp n)) p in
+      let w = both (not (ltb 4095 n)) (not (isPmp n) && not (eqb n 0x180)) p in
+      let v = both (not (isPmp n)) (not (eqb n 0x180)) (w .1) in
       let same : registersOperated r op n operand (registerRead r n) ≡ r =
       by-test (λ (x : Registers). x ≡ r) (attemptsWrite op) _ r (λ t. unwritten _) (λ t. refl) in
-      rw (held, legal, not-true (ltb 4095 n) (w .0), not-true (isPmp n) (w .1), same, same-pmp-refl (h .state .pmp))
+      rw (held, legal, not-true (ltb 4095 n) (w .0), not-true (isPmp n) (v .0), not-true (eqb n 0x180) (v .1), same, same-pmp-refl (h .state .pmp))
 
-  pub zero-step : readsZero n ≡ true → stepped h map (Csr op n operand) ≡ movedOn h map 0
+  pub zero-step : readsZero n ≡ true → stepped h map m (Csr op n operand) ≡ movedOn h map 0
   zero-step p =
       let r = h .state .registers in
       unwritten-step (listed-passes plainNumber zeroNumbers n zero-plain p) (λ value. zero-written r n value p) ∙ ap (movedOn h map) (zero-read r n p)
 
-  pub fixed-step : ignoresWrites n ≡ true → stepped h map (Csr op n operand) ≡ movedOn h map (registerRead (h .state .registers) n)
+  pub fixed-step : ignoresWrites n ≡ true → stepped h map m (Csr op n operand) ≡ movedOn h map (registerRead (h .state .registers) n)
   fixed-step p =
       unwritten-step (listed-passes plainNumber fixedNumbers n fixed-plain p) (λ value. fixed-written (h .state .registers) n value p)
 
-pub misa-step : (h : Hart) (map : Map) (op : Operation) (operand : ℕ) → canHold (h .state) ≡ true
-    → illegal (h .state .registers) op 0x301 ≡ false → stepped h map (Csr op 0x301 operand) ≡ movedOn h map 0x8000000000141101
+pub misa-step : (h : Hart) (map : Map) (m : Memory) (op : Operation) (operand : ℕ) → canHold (h .state) ≡ true
+    → illegal (h .state .registers) op 0x301 ≡ false → stepped h map m (Csr op 0x301 operand) ≡ movedOn h map 0x8000000000141101
 unfolding registerRead
-misa-step h map op operand held legal = fixed-step h map op 0x301 operand held legal refl
+misa-step h map m op operand held legal = fixed-step h map m op 0x301 operand held legal refl
 
 -- ---- what is not illegal
 
@@ -116,26 +119,40 @@ unfolding everyByte illegal present
 machine-readable r = refl
 
 pub zero-readable : (r : Registers) (n : ℕ) → r .mode ≡ 3 → readsZero n ≡ true → illegal r Read n ≡ false
-zero-readable r n m p =
-    ap (λ (mode : ℕ). illegal (withFlow r mode (r .pc) (r .mstatus)) Read n) m
+zero-readable r n e p =
+    ap (λ (mode : ℕ). illegal (withFlow r mode (r .pc) (r .mstatus)) Read n) e
     ∙ not-true (illegal (withFlow r 3 (r .pc) (r .mstatus)) Read n)
     (listed-passes (λ (k : ℕ). not (illegal (withFlow r 3 (r .pc) (r .mstatus)) Read k)) zeroNumbers n (machine-readable r) p)
 
--- present, not read-only, and no counter that could be hidden
+-- present, not read-only, not satp, and no counter that could be hidden
 abbrev openNumber : ℕ → Bool
-openNumber n = present n && not (readOnly n || between 0xC00 0xC1F n)
+openNumber n = present n && not (readOnly n || (eqb n 0x180 || between 0xC00 0xC1F n))
 
 fixed-open : everyListed openNumber fixedNumbers ≡ true
 unfolding everyByte present
 fixed-open = refl
 
 pub fixed-writable : (r : Registers) (op : Operation) (n : ℕ) → ignoresWrites n ≡ true
-    → illegal r op n ≡ (ltb (r .mode) (n / 256 % 4) || (eqb n 0x180 && (eqb (r .mode) 1 && testBit (r .mstatus) 20)))
+    → illegal r op n ≡ ltb (r .mode) (n / 256 % 4)
 unfolding illegal
 fixed-writable r op n p =
-    let w = both (present n) (not (readOnly n || between 0xC00 0xC1F n)) (listed-passes openNumber fixedNumbers n fixed-open p) in
-    let v = neither (readOnly n) (between 0xC00 0xC1F n) (not-true _ (w .1)) in
-    rw (w .0, v .0, v .1, and-false (attemptsWrite op), or-false (translationTrapped r n))
+    let w = both (present n) (not (readOnly n || (eqb n 0x180 || between 0xC00 0xC1F n))) (listed-passes openNumber fixedNumbers n fixed-open p) in
+    let v = neither (readOnly n) (eqb n 0x180 || between 0xC00 0xC1F n) (not-true _ (w .1)) in
+    let u = neither (eqb n 0x180) (between 0xC00 0xC1F n) (v .1) in
+    rw (w .0, v .0, u .0, u .1, and-false (attemptsWrite op), or-false (ltb (r .mode) (n / 256 % 4)))
+
+-- ---- satp
+
+pub satp-illegal : (r : Registers) (op : Operation) → illegal r op 0x180 ≡ (ltb (r .mode) 1 || (eqb (r .mode) 1 && testBit (r .mstatus) 20))
+unfolding illegal present
+satp-illegal r op = rw (and-false (attemptsWrite op), or-false (eqb (r .mode) 1 && testBit (r .mstatus) 20))
+
+pub satp-step : (h : Hart) (map : Map) (m : Memory) (op : Operation) (operand : ℕ) → canHold (h .state) ≡ true
+    → illegal (h .state .registers) op 0x180 ≡ false
+    → stepped h map m (Csr op 0x180 operand)
+    ≡ handedBack (hartWith (withSatp (movedOn h map 0 .hart .state) (satpOperated (h .state .satp) op operand))) map (DoneValue (h .state .satp))
+unfolding stepped stepRule csrStep
+satp-step h map m op operand held legal = rw (held, legal, same-pmp-refl (h .state .pmp))
 
 -- ---- pmpcfg0 and pmpcfg2
 
@@ -149,17 +166,17 @@ machine-legal : (r : Registers) (n : ℕ) → r .mode ≡ 3 → illegal (withFlo
 machine-legal r n m p = ap (λ (mode : ℕ). illegal (withFlow r mode (r .pc) (r .mstatus)) Read n) m ∙ p
 
 -- a read of a protection register
-protection-read : (h : Hart) (map : Map) (n operand : ℕ) → canHold (h .state) ≡ true → illegal (h .state .registers) Read n ≡ false
-    → ltb 4095 n ≡ false → isPmp n ≡ true → stepped h map (Csr Read n operand) ≡ movedOn h map (pmpRead (h .state .pmp) n)
+protection-read : (h : Hart) (map : Map) (m : Memory) (n operand : ℕ) → canHold (h .state) ≡ true → illegal (h .state .registers) Read n ≡ false
+    → ltb 4095 n ≡ false → isPmp n ≡ true → stepped h map m (Csr Read n operand) ≡ movedOn h map (pmpRead (h .state .pmp) n)
 unfolding stepped stepRule csrStep
-protection-read h map n operand held legal small pmp = rw (held, legal, small, pmp, same-pmp-refl (h .state .pmp))
+protection-read h map m n operand held legal small pmp = rw (held, legal, small, pmp, same-pmp-refl (h .state .pmp))
 
-pub config-steps : (h : Hart) (map : Map) (operand : ℕ) → canHold (h .state) ≡ true → h .state .registers .mode ≡ 3
-    → (stepped h map (Csr Read 0x3A0 operand) ≡ movedOn h map (packed (take 8 (h .state .pmp .cfgs))))
-    × (stepped h map (Csr Read 0x3A2 operand) ≡ movedOn h map (packed (drop 8 (h .state .pmp .cfgs))))
+pub config-steps : (h : Hart) (map : Map) (m : Memory) (operand : ℕ) → canHold (h .state) ≡ true → h .state .registers .mode ≡ 3
+    → (stepped h map m (Csr Read 0x3A0 operand) ≡ movedOn h map (packed (take 8 (h .state .pmp .cfgs))))
+    × (stepped h map m (Csr Read 0x3A2 operand) ≡ movedOn h map (packed (drop 8 (h .state .pmp .cfgs))))
 unfolding illegal present
-config-steps h map operand held m =
+config-steps h map m operand held mode =
     let r = h .state .registers in (
-      protection-read h map 0x3A0 operand held (machine-legal r 0x3A0 m refl) refl refl,
-      protection-read h map 0x3A2 operand held (machine-legal r 0x3A2 m refl) refl refl,
+      protection-read h map m 0x3A0 operand held (machine-legal r 0x3A0 mode refl) refl refl,
+      protection-read h map m 0x3A2 operand held (machine-legal r 0x3A2 mode refl) refl refl,
     )

@@ -13,10 +13,10 @@ use Rattle.pmp.specs.declared.Access.{Access}
 use Rattle.pmp.specs.declared.Access.the-variants.{Fetch, Load, Store}
 use Rattle.pmp.specs.declared.Decision.{Decision}
 use Rattle.pmp.specs.Search.{anyByte}
-use Rattle.pmp.specs.Entry.{top, entrySpan}
-use Rattle.pmp.specs.Rule.{isSize, ownersDecide, byteRule, checked, none as noEntry}
+use Rattle.pmp.specs.Entry.{top}
+use Rattle.pmp.specs.Rule.{isSize, ownersDecide, none as noEntry}
 use Rattle.pmp.specs.Number.{faultCause}
-use Rattle.pmp.proofs.Answered.{GrantOrFault, grants, faults, owners-answer, rule-answers}
+use Rattle.pmp.proofs.Answered.{GrantOrFault, grants, faults, owners-answer}
 use Rattle.steps.specs.declared.Operation.{Operation}
 use Rattle.steps.specs.declared.Event.{Event}
 use Rattle.steps.specs.declared.Event.the-variants.{Raise, Lines, TakeInterrupt, Mret, Sret, Wfi, Ecall, Ebreak, Advance, Elapsed}
@@ -25,12 +25,17 @@ use Rattle.steps.specs.declared.Step.the-variants.{Reset, Csr, Access as Access
 use Rattle.steps.specs.declared.Answer.{Answer}
 use Rattle.steps.specs.declared.Answer.the-variants.{Done, Refused}
 use Rattle.steps.specs.Number.{refusalOf}
-use Rattle.registers.specs.Effective.{effectiveMode}
 use Rattle.protection.specs.Read.{isPmp}
 use Rattle.protection.proofs.SameLaws.{same-pmp-refl}
+use Rattle.paging.specs.declared.Context.{Context}
+use Rattle.paging.specs.declared.Reached.{Reached}
+use Rattle.paging.specs.Memory.{Memory, lawful}
+use Rattle.paging.specs.Access.{pageFaultCause, reached}
+use Rattle.paging.proofs.Answered.{Answered, grants as reach-grants, faults as reach-faults, page-faults, reached-unlawful, reached-missized, reached-answered}
 use Rattle.state.specs.declared.State.{State}
 use Rattle.state.specs.Hold.{canHold}
-use Rattle.state.specs.Words.{wordsOf, stateOf}
+use Rattle.state.specs.Words.{textWords}
+use Rattle.state.specs.Texts.{hasText, textState}
 use Rattle.csr.specs.Permit.{illegal}
 use Rattle.trap.specs.declared.Outcome.{Outcome}
 use Rattle.trap.specs.Enter.{raised, illegalInstruction}
@@ -46,9 +51,11 @@ use Rattle.engine.specs.Effects.{
   refused,
   onRegisters,
   protectionStep,
+  satpStep,
   registerStep,
   csrStep,
   accessDecided,
+  contextOf,
   accessAt,
   accessStep,
   effect,
@@ -61,7 +68,7 @@ use Rattle.hart.specs.Steps.{hartWith, handedBack, withMap, resetDone, stepped}
 use Rattle.hart.specs.Queries.{queryAnswer}
 use Rattle.hart.specs.Saved.{savedAnswer, savedBuffer, restoredDone, restoredWords, restored}
 use Rattle.claims.specs.Refusals.{
-  sizeRefusal,
+  memoryRefusal,
   eventRefusal,
   argumentRefusal,
   stepRefusal,
@@ -141,45 +148,49 @@ module _ (s : State) where
 
   csr-refuses : (op : Operation) (number operand : ℕ) → Refuses s (cond (ltb 4095 number) (some 2) none) (csrStep s op number operand)
   unfolding csrStep
-  csr-refuses op number operand = go (ltb 4095 number) (illegal (s .registers) op number) (isPmp number)
+  csr-refuses op number operand = go (ltb 4095 number) (illegal (s .registers) op number) (isPmp number) (eqb number 0x180)
     where
-      go : (a b c : Bool)
+      go : (a b c d : Bool)
           → Refuses s (cond a (some 2) none)
           (cond a (refused s 2)
           (cond b (onRegisters s (illegalInstruction (s .registers)))
-          (cond c (protectionStep s op number operand) (registerStep s op number operand))))
-      go true b c = refl
-      go false true c = raised-quiet (s .registers) 2 0 noEntry
-      go false false true = refl
-      go false false false = refl
+          (cond c (protectionStep s op number operand) (cond d (satpStep s op operand) (registerStep s op number operand)))))
+      go true b c d = refl
+      go false true c d = raised-quiet (s .registers) 2 0 noEntry
+      go false false true d = refl
+      go false false false true = refl
+      go false false false false = refl
 
-  decided-refuses : (access : Access) (address : ℕ) (d : Decision) → GrantOrFault access d → Refuses s none (accessDecided s address d)
-  decided-refuses access address _ (grants entry h) = refl
-  decided-refuses access address _ (faults entry h) = raised-quiet (s .registers) (faultCause access) address entry
+  decided-refuses : (access : Access) {Start : ℕ → Type 0} (d : Reached) → Answered access Start d → Refuses s none (accessDecided s d)
+  decided-refuses access _ (reach-grants entry h) = refl
+  decided-refuses access _ (reach-faults tval entry a h) = raised-quiet (s .registers) (faultCause access) tval entry
+  decided-refuses access _ (page-faults tval a) = raised-quiet (s .registers) (pageFaultCause access) tval noEntry
 
-  access-refuses : (access : Access) (address size : ℕ) → Refuses s (cond (isSize size) none (some 1)) (accessAt s access address size)
-  unfolding accessAt checked
-  access-refuses access address size = go (isSize size)
-    where
-      rule : Decision
-      rule = byteRule (entrySpan (s .pmp .cfgs) (s .pmp .addrs)) (s .pmp .cfgs) (effectiveMode (s .registers) access) access address size
+  module _ (m : Memory) where
+    access-refuses : (access : Access) (address size : ℕ)
+        → Refuses s (cond (lawful m) (cond (isSize size) none (some 1)) (some 13)) (accessAt s m access address size)
+    unfolding accessAt
+    access-refuses access address size = go (lawful m) (isSize size) refl refl
+      where
+        c : Context
+        c = contextOf s access
 
-      go : (b : Bool) → Refuses s (cond b none (some 1)) (accessDecided s address (cond b rule (Decision.Refused 1)))
-      go true =
-          decided-refuses access address rule
-          (rule-answers (entrySpan (s .pmp .cfgs) (s .pmp .addrs)) (s .pmp .cfgs) (effectiveMode (s .registers) access) access address size)
-      go false = refl
+        go : (a b : Bool) → lawful m ≡ a → isSize size ≡ b
+            → Refuses s (cond a (cond b none (some 1)) (some 13)) (accessDecided s (reached (s .pmp) m c address size))
+        go true true l k = decided-refuses access _ (reached-answered (s .pmp) m c address size l k)
+        go true false l k = ap (accessDecided s) (reached-missized (s .pmp) m c address size l k)
+        go false b l k = ap (accessDecided s) (reached-unlawful (s .pmp) m c address size l)
 
-  access-step-refuses : (access : Access) (address size : ℕ) → Refuses s (sizeRefusal access size) (accessStep s access address size)
-  access-step-refuses Fetch address size = access-refuses Fetch (s .registers .pc) 4
-  access-step-refuses Load address size = access-refuses Load address size
-  access-step-refuses Store address size = access-refuses Store address size
+    access-step-refuses : (access : Access) (address size : ℕ) → Refuses s (memoryRefusal m access size) (accessStep s m access address size)
+    access-step-refuses Fetch address size = access-refuses Fetch (s .registers .pc) 4
+    access-step-refuses Load address size = access-refuses Load address size
+    access-step-refuses Store address size = access-refuses Store address size
 
-  effect-refuses : (step : Step) → Refuses s (argumentRefusal step) (effect s step)
-  effect-refuses Reset = refl
-  effect-refuses (Csr op number operand) = csr-refuses op number operand
-  effect-refuses (AccessStep access address size) = access-step-refuses access address size
-  effect-refuses (EventStep event) = event-refuses event
+    effect-refuses : (step : Step) → Refuses s (argumentRefusal m step) (effect s m step)
+    effect-refuses Reset = refl
+    effect-refuses (Csr op number operand) = csr-refuses op number operand
+    effect-refuses (AccessStep access address size) = access-step-refuses access address size
+    effect-refuses (EventStep event) = event-refuses event
 
 -- ---- the step with its map
 
@@ -187,19 +198,19 @@ with-map : (h : Hart) (map : Map) (table : Option ℕ) (e : Effect) → Refuses 
 with-map h map none e q = q
 with-map h map (some n) e q = ap (withMap h map) q ∙ rw (same-pmp-refl (h .state .pmp))
 
-step-handed : (h : Hart) (map : Map) (step : Step) → Handed h map (stepRefusal (h .state) step) (stepped h map step)
+step-handed : (h : Hart) (map : Map) (m : Memory) (step : Step) → Handed h map (stepRefusal (h .state) m step) (stepped h map m step)
 unfolding stepped stepRule
-step-handed h map step = go (isReset step) (canHold (h .state))
+step-handed h map m step = go (isReset step) (canHold (h .state))
   where
     go : (a b : Bool)
-        → Handed h map (cond a none (cond b (argumentRefusal step) (some 3)))
-        (cond a resetDone (withMap h map (cond (a || b) (effect (h .state) step) (refused (h .state) 3))))
+        → Handed h map (cond a none (cond b (argumentRefusal m step) (some 3)))
+        (cond a resetDone (withMap h map (cond (a || b) (effect (h .state) m step) (refused (h .state) 3))))
     go true b = refl
-    go false true = with-map h map (argumentRefusal step) (effect (h .state) step) (effect-refuses (h .state) step)
+    go false true = with-map h map (argumentRefusal m step) (effect (h .state) m step) (effect-refuses (h .state) m step)
     go false false = with-map h map (some 3) (refused (h .state) 3) refl
 
-reset-never : (h : Hart) (map : Map) (n : ℕ) → stepped h map Reset .answer ≡ Refused n → ⊥
-reset-never h map n e = Option·none-ne-some n (handed-exactly h map none (stepped h map Reset) (step-handed h map Reset) n .0 e)
+reset-never : (h : Hart) (map : Map) (m : Memory) (n : ℕ) → stepped h map m Reset .answer ≡ Refused n → ⊥
+reset-never h map m n e = Option·none-ne-some n (handed-exactly h map none (stepped h map m Reset) (step-handed h map m Reset) n .0 e)
 
 -- ---- queries
 
@@ -263,49 +274,55 @@ query-decided h map mode access address size = go (canHold (h .state)) (isSize s
 
 module _ (h : Hart) (buffer : List ℕ) where
   save-told : Told (saveRefusal (h .state) buffer) (savedAnswer h buffer)
-  unfolding savedAnswer
-  save-told = go (canHold (h .state)) (leb 1027 (length buffer))
+  unfolding savedAnswer hasText
+  save-told = go (canHold (h .state)) (leb 1027 (length buffer)) (hasText (h .state))
     where
-      go : (a b : Bool) → Told (cond a (cond b none (some 6)) (some 3)) (cond a (cond b Done (Refused 6)) (Refused 3))
-      go true true = refl
-      go true false = refl
-      go false b = refl
+      go : (a b c : Bool)
+          → Told (cond a (cond b (cond (not c) (some 12) none) (some 6)) (some 3)) (cond a (cond b (cond c Done (Refused 12)) (Refused 6)) (Refused 3))
+      go true true true = refl
+      go true true false = refl
+      go true false c = refl
+      go false b c = refl
 
   save-unchanged : (n : ℕ) → savedAnswer h buffer ≡ Refused n → savedBuffer h buffer ≡ buffer
   unfolding savedAnswer savedBuffer writtenTo
-  save-unchanged n = go (canHold (h .state)) (leb 1027 (length buffer))
+  save-unchanged n = go (canHold (h .state)) (leb 1027 (length buffer)) (hasText (h .state))
     where
       text : List ℕ
-      text = textOf (wordsOf (h .state)) ++ drop 1027 buffer
+      text = textOf (textWords (h .state)) ++ drop 1027 buffer
 
-      go : (a b : Bool) → cond a (cond b Done (Refused 6)) (Refused 3) ≡ Refused n → cond a (cond b text buffer) buffer ≡ buffer
-      go true true e = contradiction (ap refuses e) refl
-      go true false e = refl
-      go false b e = refl
+      go : (a b c : Bool) → cond a (cond b (cond c Done (Refused 12)) (Refused 6)) (Refused 3) ≡ Refused n
+          → cond (a && c) (cond b text buffer) buffer ≡ buffer
+      go true true true e = contradiction (ap refuses e) refl
+      go true true false e = refl
+      go true false true e = refl
+      go true false false e = refl
+      go false b c e = refl
 
 -- ---- reading a text back
 
 read-handed : (h : Hart) (map : Map) (text : List ℕ) → Handed h map (restoreRefusal text) (restored h map text)
-unfolding restored restoredWords
-read-handed h map text = go (readText text .ok) (canHold s)
+unfolding restored restoredWords hasText
+read-handed h map text = go (readText text .ok) (canHold s) (hasText s)
   where
     s : State
-    s = stateOf (readText text .words)
+    s = textState (readText text .words)
 
-    go : (a b : Bool)
-        → Handed h map (cond a (cond b none (some 5)) (some 4))
-        (cond a (cond b (restoredDone s) (handedBack h map (Refused 5))) (handedBack h map (Refused 4)))
-    go true true = refl
-    go true false = refl
-    go false b = refl
+    go : (a b c : Bool)
+        → Handed h map (cond a (cond (b && not (not c)) none (some 5)) (some 4))
+        (cond a (cond (b && c) (restoredDone s) (handedBack h map (Refused 5))) (handedBack h map (Refused 4)))
+    go true true true = refl
+    go true true false = refl
+    go true false c = refl
+    go false b c = refl
 
 -- ---- the whole table
 
 pub refusal-table : RefusalTable
 refusal-table =
     record {
-      step = λ h map step. handed-exactly h map (stepRefusal (h .state) step) (stepped h map step) (step-handed h map step);
-      step-unchanged = λ h map step. handed-unchanged h map (stepRefusal (h .state) step) (stepped h map step) (step-handed h map step);
+      step = λ h map m step. handed-exactly h map (stepRefusal (h .state) m step) (stepped h map m step) (step-handed h map m step);
+      step-unchanged = λ h map m step. handed-unchanged h map (stepRefusal (h .state) m step) (stepped h map m step) (step-handed h map m step);
       reset-never = reset-never;
       query = λ h map mode access address size.
           exactly Decision.Refused refusesAccess accessRefusal (λ n. refl) (λ n. refl) (queryRefusal (h .state) map address size)

@@ -1,4 +1,4 @@
--- 01, "What has to be nailed": what a query after a run answers, said by the registers alone.
+-- 01, "What has to be nailed", and 02, [8]: what a query after a run answers, said by the registers alone. One memory is lent to the whole run.
 use Prim.Native.Nat.{ℕ}
 use mathlib.Core.Bool.{cond}
 use mathlib.Core.List.{List, []}
@@ -8,21 +8,21 @@ use Rattle.pmp.specs.declared.Access.{Access}
 use Rattle.pmp.specs.declared.Decision.{Decision}
 use Rattle.pmp.specs.declared.Decision.the-variants.{Refused}
 use Rattle.pmp.specs.Rule.{checked}
-use Rattle.steps.specs.declared.Step.{Step}
 use Rattle.steps.specs.Number.{refusalOf}
 use Rattle.steps.specs.Decode.{stepsOf, nameSteps}
+use Rattle.paging.specs.Memory.{Memory}
 use Rattle.state.specs.declared.State.{State}
-use Rattle.engine.specs.Runs.{afterAll}
+use Rattle.engine.specs.Runs.{Lent, lent, afterAll}
 use Rattle.hart.specs.declared.Stepped.{Stepped}
 use Rattle.hart.specs.Steps.{resetMapped}
 use Rattle.hart.specs.Saved.{restored}
 
 -- the steps that numbers name, three for each; where three of them name none, or one or two are left over, no step is taken
-abbrev pub stepsIn : List ℕ → List Step
-stepsIn numbers = cond (nameSteps numbers) (stepsOf numbers) []
+abbrev pub stepsIn : Memory → List ℕ → List Lent
+stepsIn m numbers = cond (nameSteps numbers) (lent m (stepsOf numbers)) []
 
 -- the byte rule on the registers that the steps leave, with no map read; refusal 1 for a size other than 1, 2, 4, 8
-abbrev pub ruleAfter : State → List Step → Mode → Access → ℕ → ℕ → Decision
+abbrev pub ruleAfter : State → List Lent → Mode → Access → ℕ → ℕ → Decision
 ruleAfter s steps mode access address size =
     checked (afterAll s steps .pmp .cfgs) (afterAll s steps .pmp .addrs) mode access address size
 
@@ -31,7 +31,7 @@ abbrev pub readBack : List ℕ → Stepped
 readBack text = restored (resetMapped .hart) (resetMapped .map) text
 
 -- the same from the state of a text; a refused text answers with its refusal
-unfoldable pub ruleFromText : List ℕ → List Step → Mode → Access → ℕ → ℕ → Decision
+unfoldable pub ruleFromText : List ℕ → List Lent → Mode → Access → ℕ → ℕ → Decision
 ruleFromText text steps mode access address size =
     cond (eqb (refusalOf (readBack text .answer)) 0)
     (ruleAfter (readBack text .hart .state) steps mode access address size)

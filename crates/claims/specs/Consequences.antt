@@ -37,6 +37,7 @@ use Rattle.registers.specs.Update.{levelOf, withPc, withCounters}
 use Rattle.protection.specs.declared.Pmp.{Pmp}
 use Rattle.protection.specs.Configs.{packed}
 use Rattle.protection.specs.Read.{pmpRead}
+use Rattle.paging.specs.Memory.{Memory, lawful}
 use Rattle.state.specs.declared.State.{State}
 use Rattle.state.specs.Hold.{canHold, resetState}
 use Rattle.csr.specs.Permit.{between, attemptsWrite, illegal}
@@ -49,13 +50,14 @@ use Rattle.map.specs.Ranges.{IsMap}
 use Rattle.map.specs.Boundaries.{Boundaries}
 use Rattle.map.specs.Compiled.{compiled}
 use Rattle.text.specs.Text.{textOf, readAs, readText}
-use Rattle.engine.specs.Effects.{withRegisters}
+use Rattle.engine.specs.Effects.{withRegisters, withSatp, satpOperated}
 use Rattle.hart.specs.declared.Hart.{Hart}
 use Rattle.hart.specs.declared.Stepped.{Stepped}
 use Rattle.hart.specs.Steps.{hartWith, handedBack, stepped}
 use Rattle.hart.specs.Queries.{queryAnswer}
 use Rattle.hart.specs.Saved.{textFor}
 use Rattle.claims.specs.InterruptOrder.{TakesFirst}
+use Rattle.claims.specs.Refusals.{memoryRefusal}
 use Rattle.claims.specs.SavedLines.{keyed, keyedText, resetLines, joined}
 
 -- ---- registers of one value
@@ -65,16 +67,16 @@ abbrev pub listed : List (ℕ × ℕ) → ℕ → Bool
 listed [] n = false
 listed (r ∷ rs) n = between (r .0) (r .1) n || listed rs n
 
--- F11 to F15, 323 to 33F, B03 to B1F, C03 to C1F, 30A, 10A, 180 read 0
+-- F11 to F15, 323 to 33F, B03 to B1F, C03 to C1F, 30A, 10A read 0; 180 no more, by 02, [8]
 abbrev pub zeroNumbers : List (ℕ × ℕ)
-zeroNumbers = (0xF11, 0xF15) ∷ (0x323, 0x33F) ∷ (0xB03, 0xB1F) ∷ (0xC03, 0xC1F) ∷ (0x30A, 0x30A) ∷ (0x10A, 0x10A) ∷ (0x180, 0x180) ∷ []
+zeroNumbers = (0xF11, 0xF15) ∷ (0x323, 0x33F) ∷ (0xB03, 0xB1F) ∷ (0xC03, 0xC1F) ∷ (0x30A, 0x30A) ∷ (0x10A, 0x10A) ∷ []
 
 abbrev pub readsZero : ℕ → Bool
 readsZero n = listed zeroNumbers n
 
--- a write to 301, 323 to 33F, B03 to B1F, 30A, 10A or 180 changes nothing
+-- a write to 301, 323 to 33F, B03 to B1F, 30A or 10A changes nothing
 abbrev pub fixedNumbers : List (ℕ × ℕ)
-fixedNumbers = (0x301, 0x301) ∷ (0x323, 0x33F) ∷ (0xB03, 0xB1F) ∷ (0x30A, 0x30A) ∷ (0x10A, 0x10A) ∷ (0x180, 0x180) ∷ []
+fixedNumbers = (0x301, 0x301) ∷ (0x323, 0x33F) ∷ (0xB03, 0xB1F) ∷ (0x30A, 0x30A) ∷ (0x10A, 0x10A) ∷ []
 
 abbrev pub ignoresWrites : ℕ → Bool
 ignoresWrites n = listed fixedNumbers n
@@ -109,8 +111,8 @@ mayChange counter s (EventStep event) = canHold s && isElapsed event
 -- every other step leaves it: refused, trapping and illegal ones, fetches, loads and stores too
 abbrev pub OthersLeave : ℕ → (Counters → ℕ) → Type 0
 OthersLeave number counter =
-    (h : Hart) (map : Map) (step : Step) → mayChange number (h .state) step ≡ false
-    → counter (stepped h map step .hart .state .registers .counters) ≡ counter (h .state .registers .counters)
+    (h : Hart) (map : Map) (m : Memory) (step : Step) → mayChange number (h .state) step ≡ false
+    → counter (stepped h map m step .hart .state .registers .counters) ≡ counter (h .state .registers .counters)
 
 -- mcycle and minstret after elapsed, and nothing else changed
 abbrev pub elapsedBy : Hart → ℕ → ℕ → State
@@ -173,6 +175,36 @@ pub record OneAccess (h : Hart) (map : Map) (access : Access) (cause address siz
       ((ruleOn h access address size ≡ Decision.Granted decider) × (after ≡ handedBack h map (Granted decider)))
       ⊎ ((ruleOn h access address size ≡ Decision.Fault cause decider) × TrapsWith h map cause address decider after)
 
+-- 02, [8]: "Effective mode M is untranslated", and so is all with another MODE than 8, bits 63:60 of satp
+abbrev pub untranslated : Hart → Access → Bool
+untranslated h access = isMachine (effectiveMode (h .state .registers) access) || not (eqb (h .state .satp / 2 ^ 60) 8)
+
+-- "Causes 12, 13, 15"
+abbrev pub pageCauseFor : Access → ℕ
+pageCauseFor Fetch = 12
+pageCauseFor Load = 13
+pageCauseFor Store = 15
+
+-- "tval, at access faults too, is the virtual address": where the access starts, or the next boundary of 4,096 bytes, at which its second part does
+abbrev pub partStarts : ℕ → ℕ → Type 0
+partStarts address tval = (tval ≡ address) ⊎ (tval ≡ (address / 4096 + 1) * 4096 % 2 ^ 64)
+
+-- granted, and nothing changed; or a trap with the access fault of its kind, or with the page fault, which no entry decides
+pub record AccessAnswered (h : Hart) (map : Map) (access : Access) (address : ℕ) (after : Stepped) : Type 0 where
+  pub decider : ℕ
+  pub known : decider ≤ 16
+  pub cause : ℕ
+  pub tval : ℕ
+  pub kind : (cause ≡ causeFor access) ⊎ ((cause ≡ pageCauseFor access) × (decider ≡ 16))
+  pub start : partStarts address tval
+  pub decision : (after ≡ handedBack h map (Granted decider)) ⊎ TrapsWith h map cause tval decider after
+
+-- where an access starts: a fetch at pc
+abbrev pub startOf : Hart → Access → ℕ → ℕ
+startOf h Fetch address = h .state .registers .pc
+startOf h Load address = address
+startOf h Store address = address
+
 -- a trap tells no entry, and nothing is granted
 abbrev pub NoEntry : Answer → Type 0
 NoEntry Done = Unit {0}
@@ -220,45 +252,56 @@ Sized size = (size ≡ 1) ⊎ ((size ≡ 2) ⊎ ((size ≡ 4) ⊎ (size ≡ 8)))
 -- ---- all of them
 
 pub record Consequences : Type 0 where
-  -- "F11 to F15, 323 to 33F, B03 to B1F, C03 to C1F, 30A, 10A, 180 read 0": any CSR step on one that is not illegal; and in M a read never is
-  pub reads-zero : (h : Hart) (map : Map) (op : Operation) (number operand : ℕ) → canHold (h .state) ≡ true
-      → illegal (h .state .registers) op number ≡ false → readsZero number ≡ true → stepped h map (Csr op number operand) ≡ movedOn h map 0
+  -- "F11 to F15, 323 to 33F, B03 to B1F, C03 to C1F, 30A, 10A .. read 0": any CSR step on one that is not illegal; and in M a read never is
+  pub reads-zero : (h : Hart) (map : Map) (m : Memory) (op : Operation) (number operand : ℕ) → canHold (h .state) ≡ true
+      → illegal (h .state .registers) op number ≡ false → readsZero number ≡ true → stepped h map m (Csr op number operand) ≡ movedOn h map 0
   pub readable : (r : Registers) (number : ℕ) → r .mode ≡ 3 → readsZero number ≡ true → illegal r Read number ≡ false
   -- "misa (301) reads 0x8000000000141101"
-  pub reads-misa : (h : Hart) (map : Map) (op : Operation) (operand : ℕ) → canHold (h .state) ≡ true
-      → illegal (h .state .registers) op 0x301 ≡ false → stepped h map (Csr op 0x301 operand) ≡ movedOn h map 0x8000000000141101
+  pub reads-misa : (h : Hart) (map : Map) (m : Memory) (op : Operation) (operand : ℕ) → canHold (h .state) ≡ true
+      → illegal (h .state .registers) op 0x301 ≡ false → stepped h map m (Csr op 0x301 operand) ≡ movedOn h map 0x8000000000141101
   -- "3A0 and 3A2 are pmpcfg0 and pmpcfg2, entry 0 in the lowest byte"
   pub reads-configs : (p : Pmp) → (pmpRead p 0x3A0 ≡ packed (take 8 (p .cfgs))) × (pmpRead p 0x3A2 ≡ packed (drop 8 (p .cfgs)))
   pub lowest-first : (b c d e f g i j : ℕ)
       → packed (b ∷ c ∷ d ∷ e ∷ f ∷ g ∷ i ∷ j ∷ [])
       ≡ b + 2 ^ 8 * c + 2 ^ 16 * d + 2 ^ 24 * e + 2 ^ 32 * f + 2 ^ 40 * g + 2 ^ 48 * i + 2 ^ 56 * j
   pub packed-bytes : packed (1 ∷ 2 ∷ 3 ∷ 4 ∷ 5 ∷ 6 ∷ 7 ∷ 8 ∷ []) ≡ 0x0807060504030201
-  pub config-steps : (h : Hart) (map : Map) (operand : ℕ) → canHold (h .state) ≡ true → h .state .registers .mode ≡ 3
-      → (stepped h map (Csr Read 0x3A0 operand) ≡ movedOn h map (packed (take 8 (h .state .pmp .cfgs))))
-      × (stepped h map (Csr Read 0x3A2 operand) ≡ movedOn h map (packed (drop 8 (h .state .pmp .cfgs))))
-  -- "A write to 301, 323 to 33F, B03 to B1F, 30A, 10A or 180 is done and changes nothing"; it is illegal only below bits 9:8, or of 180 in S with TVM=1
-  pub ignores-writes : (h : Hart) (map : Map) (op : Operation) (number operand : ℕ) → canHold (h .state) ≡ true
+  pub config-steps : (h : Hart) (map : Map) (m : Memory) (operand : ℕ) → canHold (h .state) ≡ true → h .state .registers .mode ≡ 3
+      → (stepped h map m (Csr Read 0x3A0 operand) ≡ movedOn h map (packed (take 8 (h .state .pmp .cfgs))))
+      × (stepped h map m (Csr Read 0x3A2 operand) ≡ movedOn h map (packed (drop 8 (h .state .pmp .cfgs))))
+  -- "A write to 301, 323 to 33F, B03 to B1F, 30A, 10A .. is done and changes nothing"; it is illegal only below bits 9:8
+  pub ignores-writes : (h : Hart) (map : Map) (m : Memory) (op : Operation) (number operand : ℕ) → canHold (h .state) ≡ true
       → illegal (h .state .registers) op number ≡ false → ignoresWrites number ≡ true
-      → stepped h map (Csr op number operand) ≡ movedOn h map (registerRead (h .state .registers) number)
+      → stepped h map m (Csr op number operand) ≡ movedOn h map (registerRead (h .state .registers) number)
   pub writable : (r : Registers) (op : Operation) (number : ℕ) → ignoresWrites number ≡ true
-      → illegal r op number ≡ (ltb (r .mode) (number / 256 % 4) || (eqb number 0x180 && (eqb (r .mode) 1 && testBit (r .mstatus) 20)))
+      → illegal r op number ≡ ltb (r .mode) (number / 256 % 4)
+  -- 02, [8]: 180 is illegal below S, and in S with TVM=1, bit 20 of mstatus; else a step on it is done with the old value, moves pc on and stores, and nothing
+  -- else changes. What is stored, by numbers: Worked
+  pub satp-illegal : (r : Registers) (op : Operation) → illegal r op 0x180 ≡ (ltb (r .mode) 1 || (eqb (r .mode) 1 && testBit (r .mstatus) 20))
+  pub satp-step : (h : Hart) (map : Map) (m : Memory) (op : Operation) (operand : ℕ) → canHold (h .state) ≡ true
+      → illegal (h .state .registers) op 0x180 ≡ false
+      → stepped h map m (Csr op 0x180 operand)
+      ≡ handedBack (hartWith (withSatp (movedOn h map 0 .hart .state) (satpOperated (h .state .satp) op operand))) map (DoneValue (h .state .satp))
   -- "Elapsed adds a to mcycle unless inhibit bit 0, b to minstret unless bit 2; both counters wrap at 2^64. No other step counts."
-  pub elapsed-counts : (h : Hart) (map : Map) (cycles retired : ℕ) → canHold (h .state) ≡ true
-      → stepped h map (EventStep (Elapsed cycles retired)) ≡ handedBack (hartWith (elapsedBy h cycles retired)) map Done
+  pub elapsed-counts : (h : Hart) (map : Map) (m : Memory) (cycles retired : ℕ) → canHold (h .state) ≡ true
+      → stepped h map m (EventStep (Elapsed cycles retired)) ≡ handedBack (hartWith (elapsedBy h cycles retired)) map Done
   pub mcycle-left : OthersLeave 0xB00 (λ c. c .mcycle)
   pub minstret-left : OthersLeave 0xB02 (λ c. c .minstret)
   -- 02, [2]: "first the takeable ones bound for M in 01's order, then those for S in that order"
-  pub takes-first : (h : Hart) (map : Map) → canHold (h .state) ≡ true → TakesFirst h map (stepped h map (EventStep TakeInterrupt))
+  pub takes-first : (h : Hart) (map : Map) (m : Memory) → canHold (h .state) ≡ true → TakesFirst h map (stepped h map m (EventStep TakeInterrupt))
   -- "A misaligned load or store is one access (house). A granted access changes nothing." "Faults: fetch 1, load 5, store 7, tval the first byte's address."
-  pub load : (h : Hart) (map : Map) (address size : ℕ) → canHold (h .state) ≡ true → isSize size ≡ true
-      → OneAccess h map Load 5 address size (stepped h map (AccessStep Load address size))
-  pub store : (h : Hart) (map : Map) (address size : ℕ) → canHold (h .state) ≡ true → isSize size ≡ true
-      → OneAccess h map Store 7 address size (stepped h map (AccessStep Store address size))
+  -- So it is where nothing is translated, whatever memory is lent, if it can stand where it is said to
+  pub load : (h : Hart) (map : Map) (m : Memory) (address size : ℕ) → canHold (h .state) ≡ true → lawful m ≡ true
+      → untranslated h Load ≡ true → isSize size ≡ true → OneAccess h map Load 5 address size (stepped h map m (AccessStep Load address size))
+  pub store : (h : Hart) (map : Map) (m : Memory) (address size : ℕ) → canHold (h .state) ≡ true → lawful m ≡ true
+      → untranslated h Store ≡ true → isSize size ≡ true → OneAccess h map Store 7 address size (stepped h map m (AccessStep Store address size))
   -- "fetch of 4 bytes at pc", "arguments not named are ignored"
-  pub fetch : (h : Hart) (map : Map) (a b : ℕ) → canHold (h .state) ≡ true
-      → OneAccess h map Fetch 1 (h .state .registers .pc) 4 (stepped h map (AccessStep Fetch a b))
+  pub fetch : (h : Hart) (map : Map) (m : Memory) (a b : ℕ) → canHold (h .state) ≡ true → lawful m ≡ true → untranslated h Fetch ≡ true
+      → OneAccess h map Fetch 1 (h .state .registers .pc) 4 (stepped h map m (AccessStep Fetch a b))
+  -- 02, [8]: translated or not, an access that the table of refusals does not refuse is granted and changes nothing, or traps with one of two causes
+  pub access-answers : (h : Hart) (map : Map) (m : Memory) (access : Access) (address size : ℕ) → canHold (h .state) ≡ true
+      → memoryRefusal m access size ≡ nothing → AccessAnswered h map access (startOf h access address) (stepped h map m (AccessStep access address size))
   -- 02, [5]: a trap that comes from no access has none; step 7 and all others grant nothing
-  pub no-access : (h : Hart) (map : Map) (step : Step) → isAccess step ≡ false → NoEntry (stepped h map step .answer)
+  pub no-access : (h : Hart) (map : Map) (m : Memory) (step : Step) → isAccess step ≡ false → NoEntry (stepped h map m step .answer)
   -- "Any byte at or above 2^56: access fault in every mode (house)"; [5]: "for a byte past memory, none". "Else the lowest entry matching any byte
   -- decides: it must match all bytes, or fault, even in M with L=0": bytes of one owner are decided by it, and where some byte has another than the
   -- lowest, that one decides and it is a fault

@@ -1,4 +1,4 @@
--- 01, "What has to be nailed", and 02, [5]: demand 3, one claim about the whole list of steps.
+-- 01, "What has to be nailed", and 02, [5] and [8]: demand 3, one claim about the whole list of steps, each with the memory lent at it.
 use Prim.Native.Nat.{ℕ, _+_, _≤_, _<_}
 use mathlib.Core.Path.{_≡_}
 use mathlib.Core.Bool.{true}
@@ -12,7 +12,6 @@ use Rattle.pmp.specs.declared.Decision.the-variants.{Refused}
 use Rattle.pmp.specs.declared.Span.{Span}
 use Rattle.pmp.specs.Entry.{entrySpan}
 use Rattle.pmp.specs.Rule.{isSize, byteRule}
-use Rattle.steps.specs.declared.Step.{Step}
 use Rattle.steps.specs.declared.Answer.the-variants.{Done}
 use Rattle.protection.specs.declared.Pmp.{Pmp}
 use Rattle.state.specs.Hold.{canHold}
@@ -21,7 +20,7 @@ use Rattle.map.specs.declared.Range.{Range}
 use Rattle.map.specs.Lookup.{findRange, rangesIn}
 use Rattle.map.specs.Ranges.{IsMap}
 use Rattle.map.specs.Painting.{rangesOf}
-use Rattle.engine.specs.Runs.{afterAll}
+use Rattle.engine.specs.Runs.{Lent, afterAll}
 use Rattle.hart.specs.declared.Hart.{Hart}
 use Rattle.hart.specs.declared.Mapped.{Mapped}
 use Rattle.hart.specs.Steps.{handedBack, resetMapped}
@@ -41,23 +40,23 @@ abbrev pub Start : Mapped → Type 0
 Start start = (start ≡ resetMapped) ⊎ FromText start
 
 -- the hart and map that the steps leave
-abbrev pub left : Mapped → List Step → Mapped
+abbrev pub left : Mapped → List Lent → Mapped
 left start steps = leftBy (start .hart) (start .map) steps
 
 -- the protection registers that the step rules and the refusal table make of a start and the steps, with no map read
-abbrev pub pmpAfter : Mapped → List Step → Pmp
+abbrev pub pmpAfter : Mapped → List Lent → Pmp
 pmpAfter start steps = afterAll (start .hart .state) steps .pmp
 
 -- the bytes that their entries match
-abbrev pub spansAfter : Mapped → List Step → ℕ → Span
+abbrev pub spansAfter : Mapped → List Lent → ℕ → Span
 spansAfter start steps = entrySpan (pmpAfter start steps .cfgs) (pmpAfter start steps .addrs)
 
 -- what a query on the hart and map left answers
-abbrev pub queryAfter : Mapped → List Step → Mode → Access → ℕ → ℕ → Decision
+abbrev pub queryAfter : Mapped → List Lent → Mode → Access → ℕ → ℕ → Decision
 queryAfter start steps mode access address size = queryAnswer (left start steps .hart) (left start steps .map) mode access address size
 
 -- the claim for one start and one list of steps
-pub record FaithfulAfter (start : Mapped) (steps : List Step) : Type 0 where
+pub record FaithfulAfter (start : Mapped) (steps : List Lent) : Type 0 where
   -- the state left is the one that the step rules and the refusal table make
   pub state : left start steps .hart .state ≡ afterAll (start .hart .state) steps
   -- the map left, up to its count, is a list of ranges as 01 lays it down for these registers, the computed one, and at most 33
@@ -82,7 +81,7 @@ SameRanges =
 
 -- demand 3
 pub record Faithful : Type 0 where
-  pub after : (start : Mapped) → Start start → (steps : List Step) → FaithfulAfter start steps
+  pub after : (start : Mapped) → Start start → (steps : List Lent) → FaithfulAfter start steps
   -- there is one such list
   pub one-map : (spans : ℕ → Span) (ranges others : List Range) → IsMap spans ranges → IsMap spans others → ranges ≡ others
   pub same-ranges : SameRanges

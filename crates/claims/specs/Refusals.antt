@@ -1,13 +1,14 @@
--- 01, "Steps", with refusal 7 as 02, [5] widens it: the table of refusals and its order. A refusal returns its number and no more, and changes nothing.
-use Prim.Native.Nat.{ℕ, _^_}
+-- 01, "Steps", with refusal 7 as 02, [5] widens it, and 12 and 13 of 02, [8]: the table of refusals and its order. A refusal returns its number and no more, and changes nothing.
+use Prim.Native.Nat.{ℕ, _+_, _*_, _%_, _^_}
 use mathlib.Core.Path.{_≡_}
-use mathlib.Core.Bool.{Bool, true, cond, _||_}
+use mathlib.Core.Bool.{Bool, true, cond, not, _&&_, _||_}
 use mathlib.Core.List.{List}
 use mathlib.Core.Logic.{_↔_}
 use mathlib.Core.Option.{Option, none, some}
 use lib.Bits.{bitAnd}
 use lib.Dec.{eqb, leb, ltb}
 use lib.ListN.{length}
+use Rattle.bits.specs.Mask.{testBit}
 use Rattle.pmp.specs.declared.Mode.{Mode}
 use Rattle.pmp.specs.declared.Access.{Access}
 use Rattle.pmp.specs.declared.Access.the-variants.{Fetch, Load, Store}
@@ -18,9 +19,10 @@ use Rattle.steps.specs.declared.Event.the-variants.{Raise, Lines, TakeInterrupt
 use Rattle.steps.specs.declared.Step.{Step}
 use Rattle.steps.specs.declared.Step.the-variants.{Reset, Csr, Access as AccessStep, Event as EventStep}
 use Rattle.steps.specs.declared.Answer.the-variants.{Refused}
+use Rattle.paging.specs.Memory.{Memory}
 use Rattle.state.specs.declared.State.{State}
 use Rattle.state.specs.Hold.{canHold}
-use Rattle.state.specs.Words.{stateOf}
+use Rattle.state.specs.Texts.{textState}
 use Rattle.map.specs.declared.Map.{Map}
 use Rattle.map.specs.declared.Range.{Range}
 use Rattle.map.specs.Lookup.{findRange, rangesIn}
@@ -43,6 +45,11 @@ sizeRefusal Fetch size = none
 sizeRefusal Load size = cond (sizeNamed size) none (some 1)
 sizeRefusal Store size = cond (sizeNamed size) none (some 1)
 
+-- 13, before 1: steps 14 to 16 are lent words at an address that is no multiple of 8, or that with 8 added for each word is above 2^56
+abbrev pub memoryRefusal : Memory → Access → ℕ → Option ℕ
+memoryRefusal m access size =
+    cond (eqb (m .base % 8) 0 && leb (m .base + 8 * length (m .words)) (2 ^ 56)) (sizeRefusal access size) (some 13)
+
 -- 2: raise cause above 7; lines outside 0xA88
 abbrev pub eventRefusal : Event → Option ℕ
 eventRefusal (Raise cause tval) = cond (leb cause 7) none (some 2)
@@ -57,15 +64,15 @@ eventRefusal (Advance target) = none
 eventRefusal (Elapsed cycles retired) = none
 
 -- 2: CSR number above 4095
-abbrev pub argumentRefusal : Step → Option ℕ
-argumentRefusal Reset = none
-argumentRefusal (Csr op number operand) = cond (ltb 4095 number) (some 2) none
-argumentRefusal (AccessStep access address size) = sizeRefusal access size
-argumentRefusal (EventStep event) = eventRefusal event
+abbrev pub argumentRefusal : Memory → Step → Option ℕ
+argumentRefusal m Reset = none
+argumentRefusal m (Csr op number operand) = cond (ltb 4095 number) (some 2) none
+argumentRefusal m (AccessStep access address size) = memoryRefusal m access size
+argumentRefusal m (EventStep event) = eventRefusal event
 
--- 3 before 1 and 2: the state given is not one a hart can hold; step 0 is never refused
-abbrev pub stepRefusal : State → Step → Option ℕ
-stepRefusal s step = cond (isReset step) none (cond (canHold s) (argumentRefusal step) (some 3))
+-- 3 before 1, 2 and 13: the state given is not one a hart can hold; step 0 is never refused
+abbrev pub stepRefusal : State → Memory → Step → Option ℕ
+stepRefusal s m step = cond (isReset step) none (cond (canHold s) (argumentRefusal m step) (some 3))
 
 -- no range holds the byte, or the owner of the range read is not 0 to 15 or "none", which is 16
 abbrev pub unowned : Option Range → Bool
@@ -85,13 +92,21 @@ queryRefusal s map address size =
     (some 1))
     (some 3)
 
--- 3 before 6: the buffer for saving is shorter than 1,027 bytes
-abbrev pub saveRefusal : State → List ℕ → Option ℕ
-saveRefusal s buffer = cond (canHold s) (cond (leb 1027 (length buffer)) none (some 6)) (some 3)
+-- satp or SUM, bit 18 of mstatus, is not 0, or medeleg has a bit outside 0x3FF
+abbrev pub textless : State → Bool
+textless s =
+    not (eqb (s .satp) 0 && (not (testBit (s .registers .mstatus) 18) && eqb (bitAnd (s .registers .medeleg) 0x3FF) (s .registers .medeleg)))
 
--- 4 before 5: the text is not in the saved form; its state is not one a hart can hold
+-- 3 before 6: the buffer for saving is shorter than 1,027 bytes; 6 before 12
+abbrev pub saveRefusal : State → List ℕ → Option ℕ
+saveRefusal s buffer = cond (canHold s) (cond (leb 1027 (length buffer)) (cond (textless s) (some 12) none) (some 6)) (some 3)
+
+-- 4 before 5: the text is not in the saved form; its state is not one a hart can hold, or "such an mstatus or medeleg"
 abbrev pub restoreRefusal : List ℕ → Option ℕ
-restoreRefusal text = cond (readText text .ok) (cond (canHold (stateOf (readText text .words))) none (some 5)) (some 4)
+restoreRefusal text =
+    cond (readText text .ok)
+    (cond (canHold (textState (readText text .words)) && not (textless (textState (readText text .words)))) none (some 5))
+    (some 4)
 
 -- ---- what is claimed
 
@@ -101,11 +116,11 @@ Exactly RefusedWith table = (n : ℕ) → RefusedWith n ↔ (table ≡ some n)
 
 pub record RefusalTable : Type 0 where
   -- a step, and a refused one hands back the hart and map that went in
-  pub step : (h : Hart) (map : Map) (step : Step) → Exactly (λ n. stepped h map step .answer ≡ Refused n) (stepRefusal (h .state) step)
-  pub step-unchanged : (h : Hart) (map : Map) (step : Step) (n : ℕ) → stepped h map step .answer ≡ Refused n
-      → stepped h map step ≡ handedBack h map (Refused n)
+  pub step : (h : Hart) (map : Map) (m : Memory) (step : Step) → Exactly (λ n. stepped h map m step .answer ≡ Refused n) (stepRefusal (h .state) m step)
+  pub step-unchanged : (h : Hart) (map : Map) (m : Memory) (step : Step) (n : ℕ) → stepped h map m step .answer ≡ Refused n
+      → stepped h map m step ≡ handedBack h map (Refused n)
   -- step 0 is never refused
-  pub reset-never : (h : Hart) (map : Map) (n : ℕ) → stepped h map Reset .answer ≡ Refused n → ⊥
+  pub reset-never : (h : Hart) (map : Map) (m : Memory) (n : ℕ) → stepped h map m Reset .answer ≡ Refused n → ⊥
   -- a query, which hands back its answer and nothing that could change
   pub query : (h : Hart) (map : Map) (mode : Mode) (access : Access) (address size : ℕ)
       → Exactly (λ n. queryAnswer h map mode access address size ≡ Decision.Refused n) (queryRefusal (h .state) map address size)

@@ -1,4 +1,5 @@
--- 01, "Saved text": saving and reading back lose nothing, and no second text stands for the same state.
+-- 01, "Saved text": saving and reading back lose nothing, and no second text stands for the same state; by 02, [8] without the states that refusal 12
+-- refuses.
 use Prim.Native.Nat.{ℕ, _^_, _≤_, _<_}
 use mathlib.Core.Path.{_≡_}
 use mathlib.Core.Bool.{true, cond}
@@ -9,6 +10,7 @@ use Rattle.protection.specs.Arrays.{Arrays}
 use Rattle.state.specs.declared.State.{State}
 use Rattle.state.specs.Hold.{canHold}
 use Rattle.state.specs.Words.{wordsOf}
+use Rattle.state.specs.Texts.{hasText}
 use Rattle.map.specs.declared.Map.{Map}
 use Rattle.text.specs.Text.{textLength}
 use Rattle.hart.specs.declared.Hart.{Hart}
@@ -21,10 +23,10 @@ pub record Typed (s : State) : Type 0 where
   pub arrays : Arrays (s .pmp)
   pub words : (i : ℕ) → getD (wordsOf s) i 0 < 2 ^ 64
 
--- every state that a hart can hold is saved, and reading back what was saved gives it again, with its map
+-- every state that a hart can hold and that 12 does not refuse is saved, and reading back what was saved gives it again, with its map
 abbrev pub SavedRestored : Type 0
 SavedRestored =
-    (h g : Hart) (map : Map) (buffer : List ℕ) → Typed (h .state) → canHold (h .state) ≡ true → textLength ≤ length buffer
+    (h g : Hart) (map : Map) (buffer : List ℕ) → Typed (h .state) → canHold (h .state) ≡ true → hasText (h .state) ≡ true → textLength ≤ length buffer
     → (savedAnswer h buffer ≡ Done) × (restored g map (take textLength (savedBuffer h buffer)) ≡ restoredDone (h .state))
 
 -- saving what a text reads back as writes that text
@@ -47,4 +49,5 @@ pub record Lossless : Type 0 where
 
 -- saving and reading back at once
 unfoldable pub resaved : Hart → Map → Stepped
-resaved h map = cond (canHold (h .state)) (restoredDone (h .state)) (handedBack h map (Refused 3))
+resaved h map =
+    cond (canHold (h .state)) (cond (hasText (h .state)) (restoredDone (h .state)) (handedBack h map (Refused 12))) (handedBack h map (Refused 3))

@@ -1,4 +1,5 @@
--- 01, "Hand-checked settings", W1 to W12, the entries of [5] in W1 to W9, and 02's own case of [2], as one table.
+-- 01, "Hand-checked settings", W1 to W12, the entries of [5] in W1 to W9, 02's own case of [2], and writes to satp of [8], as one table. Page tables have
+-- their own, in paging/specs/Worked.
 use Prim.Native.Nat.{ℕ, zero, suc, _+_, _-_, _*_, _^_}
 use mathlib.Core.Path.{_≡_}
 use mathlib.Core.List.{List, [], _∷_}
@@ -10,6 +11,8 @@ use Rattle.pmp.specs.declared.Decision.the-variants.{Granted, Fault, Refused}
 use Rattle.pmp.specs.Number.{faultCause}
 use Rattle.pmp.specs.Entry.{entries, entrySpan}
 use Rattle.pmp.specs.Rule.{checked, none}
+use Rattle.steps.specs.declared.Operation.{Operation}
+use Rattle.steps.specs.declared.Operation.the-variants.{Write, Set, Clear, Read}
 use Rattle.steps.specs.declared.Event.the-variants.{Mret, TakeInterrupt, Elapsed}
 use Rattle.steps.specs.declared.Step.{Step}
 use Rattle.steps.specs.declared.Step.the-variants.{Event as EventStep}
@@ -17,10 +20,11 @@ use Rattle.registers.specs.declared.Registers.{Registers}
 use Rattle.registers.specs.Hold.{resetRegisters}
 use Rattle.registers.specs.Update.{withFlow, withStatus, withInterrupts, withCounters}
 use Rattle.protection.specs.Hold.{resetPmp}
+use Rattle.paging.specs.Memory.{memoryAt}
 use Rattle.map.specs.declared.Range.{Range}
 use Rattle.map.specs.Ranges.{range}
 use Rattle.map.specs.Painting.{rangesOf}
-use Rattle.engine.specs.Effects.{stepRule}
+use Rattle.engine.specs.Effects.{satpOperated, stepRule}
 
 pub data Setting : Type 0 where
   -- entry 0 alone: an access of `size` bytes faults in every mode, whatever its kind, by this entry
@@ -33,6 +37,8 @@ pub data Setting : Type 0 where
   counted : (cfgs addrs : List ℕ) → ℕ → Setting
   -- this entry, or none, decides on an access of `size` bytes, in every mode and whatever its kind
   decided : (cfgs addrs : List ℕ) (address size entry : ℕ) → Setting
+  -- 02, [8]: satp after an operation on the value held
+  satp : (held : ℕ) → Operation → (operand value : ℕ) → Setting
   -- after the step a register has this value
   leaves : Registers → Step → (Registers → ℕ) → ℕ → Setting
 
@@ -54,7 +60,8 @@ Right (covers cfg addr first last) = entrySpan (alone cfg) (alone addr) 0 ≡ re
 Right (mapped cfgs addrs ranges) = rangesOf (entrySpan cfgs addrs) ≡ ranges
 Right (counted cfgs addrs n) = length (rangesOf (entrySpan cfgs addrs)) ≡ n
 Right (decided cfgs addrs address size entry) = (mode : Mode) (access : Access) → decider (checked cfgs addrs mode access address size) ≡ entry
-Right (leaves r step register value) = register (stepRule (record { registers = r; pmp = resetPmp }) step .state .registers) ≡ value
+Right (satp held op operand value) = satpOperated held op operand ≡ value
+Right (leaves r step register value) = register (stepRule (record { registers = r; pmp = resetPmp; satp = 0 }) (memoryAt [] 0) step .state .registers) ≡ value
 
 abbrev pub AllRight : List Setting → Type 0
 AllRight [] = Unit {0}
@@ -154,4 +161,13 @@ settings =
     -- [2]: STI is taken, to M
     ∷ leaves contested (EventStep TakeInterrupt) (λ r. r .machine .cause) (2 ^ 63 + 5)
     ∷ leaves contested (EventStep TakeInterrupt) (λ r. r .mode) 3
+    -- [8]: MODE 0 and 8 with ASID dropped; any other is ignored; judged after set and clear
+    ∷ satp 0 Write 0x8FFFF23456789ABC 0x8000023456789ABC
+    ∷ satp 0x8000000000000001 Write 0x0FFFFFFFFFFFFFFF 0x00000FFFFFFFFFFF
+    ∷ satp 0x8000000000000001 Write 0x9000000000000002 0x8000000000000001
+    ∷ satp 0x8000000000000001 Write 0x1000000000000002 0x8000000000000001
+    ∷ satp 0x0000000000000001 Set 0x8000000000000002 0x8000000000000003
+    ∷ satp 0x8000000000000001 Set 0x4000000000000002 0x8000000000000001
+    ∷ satp 0x8000000000000003 Clear 0x8000000000000001 0x0000000000000002
+    ∷ satp 0x8000000000000003 Read 0 0x8000000000000003
     ∷ []

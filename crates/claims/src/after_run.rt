@@ -1,10 +1,11 @@
-// A query after a whole run. The contracts name no map: they are demand 3, said of the program.
+// A query after a whole run. The contracts name no map: they are demand 3, said of the program. One slice of words is lent to all steps of a run.
 use hart::Hart;
 use map::Map;
 use pmp::Access;
 use pmp::Decision;
 use pmp::Mode;
 ghost use mathlib.Core.Path.{_≡_};
+ghost use Rattle.paging.specs.Memory.{memoryAt};
 ghost use Rattle.state.specs.Hold.{resetState};
 ghost use Rattle.hart.specs.Runs.{with};
 ghost use Rattle.claims.specs.Faithful.{queryAfter};
@@ -14,18 +15,20 @@ ghost use Rattle.claims.specs.AfterRun.{stepsIn, ruleAfter, ruleFromText
 fn query_after(
     hart: Hart,
     map: Map,
+    memory: &[u64],
+    base: u64,
     steps: &[u64],
     mode: Mode,
     access: Access,
     address: u64,
     size: u64,
 ) -> Decision
-    ensures { λ r. ⌜ r ≡ queryAfter (with hart map) (stepsIn (now (steps .entry))) mode access address size ⌝ }
+    ensures { λ r. ⌜ r ≡ queryAfter (with hart map) (stepsIn (memoryAt (now (memory .entry)) base) (now (steps .entry))) mode access address size ⌝ }
 {
     let state = hart.state;
     let mut words = state::to_words(state);
     let mut answers = [0u64; 1];
-    let remap = engine::run(&mut words, steps, &mut answers);
+    let remap = engine::run(&mut words, memory, base, steps, &mut answers);
     let after = state::of_words(words);
     let left = Hart { state: after };
     if !remap {
@@ -38,30 +41,34 @@ fn query_after(
 
 // A query after a run from reset.
 pub fn query_from_reset(
+    memory: &[u64],
+    base: u64,
     steps: &[u64],
     mode: Mode,
     access: Access,
     address: u64,
     size: u64,
 ) -> Decision
-    ensures { λ r. ⌜ r ≡ ruleAfter resetState (stepsIn (now (steps .entry))) mode access address size ⌝ }
+    ensures { λ r. ⌜ r ≡ ruleAfter resetState (stepsIn (memoryAt (now (memory .entry)) base) (now (steps .entry))) mode access address size ⌝ }
 {
     let start = Hart::reset();
     let hart = start.hart;
     let map = start.map;
-    query_after(hart, map, steps, mode, access, address, size)
+    query_after(hart, map, memory, base, steps, mode, access, address, size)
 }
 
 // A query after a run from a saved text. A refused text answers with its refusal.
 pub fn query_from_text(
     text: &[u8],
+    memory: &[u64],
+    base: u64,
     steps: &[u64],
     mode: Mode,
     access: Access,
     address: u64,
     size: u64,
 ) -> Decision
-    ensures { λ r. ⌜ r ≡ ruleFromText (now (text .entry)) (stepsIn (now (steps .entry))) mode access address size ⌝ }
+    ensures { λ r. ⌜ r ≡ ruleFromText (now (text .entry)) (stepsIn (memoryAt (now (memory .entry)) base) (now (steps .entry))) mode access address size ⌝ }
 {
     let start = Hart::reset();
     let blank = start.hart;
@@ -72,7 +79,7 @@ pub fn query_from_text(
     if refusal == 0 {
         let hart = read.hart;
         let map = read.map;
-        query_after(hart, map, steps, mode, access, address, size)
+        query_after(hart, map, memory, base, steps, mode, access, address, size)
     } else {
         Decision::Refused(refusal)
     }

@@ -18,6 +18,13 @@ pub fn resaved(hart: Hart, map: Map) -> Stepped
         };
     }
     let state = hart.state;
+    if !state::has_text(state) {
+        return Stepped {
+            hart,
+            map,
+            answer: Answer::Refused(12),
+        };
+    }
     let pmp = state.pmp;
     protection::typed(pmp);
     let words = state::to_words(state);

@@ -7,7 +7,7 @@ use Rattle.registers.specs.declared.Registers.{Registers}
 use Rattle.registers.specs.Masks.{sstatusMask, uxl}
 use Rattle.registers.specs.Status.{pending}
 
--- sstatus shows mstatus within 0x80122 plus UXL
+-- sstatus shows mstatus within 0xC0122 plus UXL
 abbrev pub sstatus : ℕ → ℕ
 sstatus mstatus = bitOr (bitAnd mstatus sstatusMask) uxl
 
@@ -23,7 +23,8 @@ sip r = bitAnd (pending r) (r .interrupts .mideleg)
 abbrev pub misa : ℕ
 misa = 0x8000000000141101
 
--- the register's value, by its number; F11 to F15, 323 to 33F, B03 to B1F, C03 to C1F, 30A, 10A, 180 read 0, and so do numbers not present
+-- the register's value, by its number; F11 to F15, 323 to 33F, B03 to B1F, C03 to C1F, 30A, 10A read 0, and so do the numbers of no register here: 180
+-- and those of protection, which the step rule reads where they are, and numbers not present
 unfoldable pub registerRead : Registers → ℕ → ℕ
 registerRead r n =
     cond (eqb n 0x100) (sstatus (r .mstatus))

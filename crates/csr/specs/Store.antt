@@ -20,7 +20,7 @@ unfoldable pub statusWritten : ℕ → ℕ → ℕ
 statusWritten old value =
     cond (eqb (bitAnd value (ppMask Machine)) 0x1000) (replaced (ppMask Machine) old (keptStatus value)) (keptStatus value)
 
--- sstatus writes within 0x80122
+-- sstatus writes within 0xC0122
 abbrev pub sstatusWritten : ℕ → ℕ → ℕ
 sstatusWritten mstatus value = replaced sstatusMask value mstatus
 
@@ -62,7 +62,7 @@ tvalAt level r value = withLevel level r (withTval (levelOf level r) value)
 
 -- ---- a write to any register
 
--- by its number; a write to 301, 323 to 33F, B03 to B1F, 30A, 10A or 180 changes nothing, nor does one to a number not present
+-- by its number; a write to 301, 323 to 33F, B03 to B1F, 30A or 10A changes nothing, nor does one to the number of no register here
 unfoldable pub registersWritten : Registers → ℕ → ℕ → Registers
 registersWritten r n value =
     cond (eqb n 0x100) (withStatus r (sstatusWritten (r .mstatus) value))

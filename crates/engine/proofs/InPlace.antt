@@ -4,13 +4,12 @@ use mathlib.Core.Path.{_≡_, refl, sym, ap, _∙_}
 use mathlib.Core.Bool.{Bool, true, false, cond, not}
 use mathlib.Core.List.{List}
 use native.Mathlib.Omega.{arith}
-use lib.ListN.{length, set}
-use borrow.Author.Tests.{lt-ltb, le-ltb}
+use lib.Dec.{eqb}
+use lib.ListN.{length, getD, set}
+use borrow.Author.Tests.{lt-ltb, le-ltb, eq-eqb, ne-eqb}
 use Rattle.bits.specs.Lists.{elements}
 use Rattle.pmp.specs.declared.Mode.{Mode}
 use Rattle.pmp.specs.declared.Access.{Access}
-use Rattle.pmp.specs.declared.Decision.{Decision}
-use Rattle.pmp.specs.Rule.{checked}
 use Rattle.steps.specs.declared.Operation.{Operation}
 use Rattle.steps.specs.declared.Level.{Level}
 use Rattle.steps.specs.declared.Event.{Event}
@@ -25,11 +24,15 @@ use Rattle.protection.specs.Configs.{packed, unpacked, configsOf}
 use Rattle.protection.specs.Read.{isPmp, pmpRead}
 use Rattle.protection.specs.Same.{samePmp}
 use Rattle.protection.proofs.SameLaws.{same-pmp-refl}
+use Rattle.paging.specs.declared.Context.{Context}
+use Rattle.paging.specs.declared.Reached.{Reached}
+use Rattle.paging.specs.Memory.{Memory}
+use Rattle.paging.specs.Access.{reached}
 use Rattle.state.specs.declared.State.{State}
 use Rattle.state.specs.Hold.{resetState}
 use Rattle.state.specs.Words.{wordsOf, registersOf, pmpOf, stateOf}
-use Rattle.state.specs.Slices.{loadedRegisters, loadedPmp, storedRegisters, storedPmp}
-use Rattle.state.proofs.SliceLaws.{registers-loaded, pmp-loaded, registers-stored, registers-length, pmp-stored, pmp-length, one-stored}
+use Rattle.state.specs.Slices.{loadedRegisters, loadedPmp, loadedSatp, storedRegisters, storedPmp, storedSatp}
+use Rattle.state.proofs.SliceLaws.{registers-loaded, pmp-loaded, satp-loaded, registers-stored, registers-length, pmp-stored, pmp-length, satp-stored, satp-length, one-stored}
 use Rattle.csr.specs.Permit.{illegal}
 use Rattle.csr.specs.Show.{registerRead}
 use Rattle.csr.specs.Operate.{registersOperated}
@@ -38,7 +41,24 @@ use Rattle.trap.specs.Enter.{raisedBy, illegalInstruction}
 use Rattle.trap.specs.Return.{returned, mayReturn, returnStep, nextPc}
 use Rattle.trap.specs.Events.{eventStep}
 use Rattle.engine.specs.declared.Taken.{Taken}
-use Rattle.engine.specs.Effects.{Effect, refused, withRegisters, onRegisters, pmpOperated, protectionStep, registerStep, csrStep, accessDecided, accessAt, eventEffect}
+use Rattle.engine.specs.Effects.{
+  Effect,
+  refused,
+  withRegisters,
+  withPmp,
+  withSatp,
+  onRegisters,
+  pmpOperated,
+  satpOperated,
+  protectionStep,
+  satpStep,
+  registerStep,
+  csrStep,
+  accessDecided,
+  contextOf,
+  accessAt,
+  eventEffect,
+}
 use Rattle.engine.specs.Taking.{taken}
 
 -- an answer, and the state of the words that are left: those of an effect
@@ -63,12 +83,12 @@ unfolding wordsOf elements packed unpacked configsOf
 reset-back = refl
 
 -- pc, stored where it lies
-pc-stored : (w : List ℕ) → length w ≡ 41 → (pc : ℕ) → stateOf (set w 1 pc) ≡ withRegisters (stateOf w) (withPc (registersOf w) pc)
+pc-stored : (w : List ℕ) → length w ≡ 42 → (pc : ℕ) → stateOf (set w 1 pc) ≡ withRegisters (stateOf w) (withPc (registersOf w) pc)
 pc-stored w fit pc =
     let r = withPc (registersOf w) pc in
     ap stateOf (one-stored w fit 1 pc r (omega arith) refl) ∙ registers-stored w fit r
 
-module _ (w : List ℕ) (fit : length w ≡ 41) where
+module _ (w : List ℕ) (fit : length w ≡ 42) where
   -- registers that were read, an outcome that a rule made of them, and what was left of it
   pub left : (rule : Registers → Outcome) {r : Registers} {o : Outcome} {a : Answer} {x : State} → r ≡ loadedRegisters w → o ≡ rule r
       → a ≡ o .answer → x ≡ withRegisters (stateOf w) (o .registers) → Does (onRegisters (stateOf w) (rule (registersOf w))) a x
@@ -103,25 +123,34 @@ module _ (w : List ℕ) (fit : length w ≡ 41) where
 
   -- ---- an access, from the mode and the decision that were found
 
-  module _ (access : Access) (address size : ℕ) {r : Registers} {p : Pmp} (er : r ≡ loadedRegisters w) (ep : p ≡ loadedPmp w)
-      {mode : Mode} (em : mode ≡ effectiveMode r access) {d : Decision} (ed : d ≡ checked (p .cfgs) (p .addrs) mode access address size) where
-    decided-is : accessDecided (stateOf w) address d ≡ accessAt (stateOf w) access address size
+  module _ (m : Memory) (access : Access) (address size : ℕ) {r : Registers} {p : Pmp} {satp : ℕ} (er : r ≡ loadedRegisters w) (ep : p ≡ loadedPmp w)
+      (es : satp ≡ loadedSatp w) {mode : Mode} (em : mode ≡ effectiveMode r access) {d : Reached}
+      (ed : d ≡ reached p m (record { satp = satp; mstatus = getD w 2 0; mode = mode; access = access }) address size) where
+    context-is : record { satp = satp; mstatus = getD w 2 0; mode = mode; access = access } ≡ contextOf (stateOf w) access
+    context-is =
+        λ j.
+        record {
+          satp = (es ∙ satp-loaded w fit) j;
+          mstatus = getD w 2 0;
+          mode = (em ∙ ap (λ (y : Registers). effectiveMode y access) (er ∙ registers-loaded w fit)) j;
+          access = access;
+        }
+
+    decided-is : accessDecided (stateOf w) d ≡ accessAt (stateOf w) m access address size
     unfolding accessAt
     decided-is =
-        ap (accessDecided (stateOf w) address)
-        (ed ∙ (λ j.
-        checked ((ep ∙ pmp-loaded w fit) j .cfgs) ((ep ∙ pmp-loaded w fit) j .addrs)
-        ((em ∙ ap (λ (y : Registers). effectiveMode y access) (er ∙ registers-loaded w fit)) j) access address size))
+        ap (accessDecided (stateOf w)) (ed ∙ (λ j. reached ((ep ∙ pmp-loaded w fit) j) m (context-is j) address size))
 
-    pub access-does : {e : Decision} → d ≡ e → {a : Answer} {x : State} → Does (accessDecided (stateOf w) address e) a x
-        → Does (accessAt (stateOf w) access address size) a x
+    pub access-does : {e : Reached} → d ≡ e → {a : Answer} {x : State} → Does (accessDecided (stateOf w) e) a x
+        → Does (accessAt (stateOf w) m access address size) a x
     access-does q k =
-        let e = ap (accessDecided (stateOf w) address) (sym q) ∙ decided-is in
+        let e = ap (accessDecided (stateOf w)) (sym q) ∙ decided-is in
         (k .0 ∙ ap (λ (y : Effect). y .answer) e, k .1 ∙ ap (λ (y : Effect). y .state) e)
 
-    pub fault-does : {cause entry : ℕ} → d ≡ Decision.Fault cause entry → {again : Registers} → again ≡ loadedRegisters w → {o : Outcome} {a : Answer} {x : State}
-        → o ≡ raisedBy again cause address entry → a ≡ o .answer → x ≡ withRegisters (stateOf w) (o .registers) → Does (accessAt (stateOf w) access address size) a x
-    fault-does {cause} {entry} q el eo ea ex = access-does q (left (λ (y : Registers). raisedBy y cause address entry) el eo ea ex)
+    pub fault-does : {cause tval entry : ℕ} → d ≡ Reached.Fault cause tval entry → {again : Registers} → again ≡ loadedRegisters w
+        → {o : Outcome} {a : Answer} {x : State} → o ≡ raisedBy again cause tval entry → a ≡ o .answer → x ≡ withRegisters (stateOf w) (o .registers)
+        → Does (accessAt (stateOf w) m access address size) a x
+    fault-does {cause} {tval} {entry} q el eo ea ex = access-does q (left (λ (y : Registers). raisedBy y cause tval entry) el eo ea ex)
 
   -- ---- a CSR step
 
@@ -135,12 +164,13 @@ module _ (w : List ℕ) (fit : length w ≡ 41) where
       illegal-is = sym (eb ∙ ap (λ (y : Registers). illegal y op number) (er ∙ registers-loaded w fit))
 
       -- the step by the tests that were made
-      by-tests : (c : Bool) → isPmp number ≡ c
+      by-tests : (c d : Bool) → isPmp number ≡ c → eqb number 0x180 ≡ d
           → csrStep (stateOf w) op number operand
           ≡ cond b (onRegisters (stateOf w) (illegalInstruction (registersOf w)))
-          (cond c (protectionStep (stateOf w) op number operand) (registerStep (stateOf w) op number operand))
+          (cond c (protectionStep (stateOf w) op number operand)
+          (cond d (satpStep (stateOf w) op operand) (registerStep (stateOf w) op number operand)))
       unfolding csrStep
-      by-tests c e = rw (le-ltb 4095 number low, illegal-is, e)
+      by-tests c d e f = rw (le-ltb 4095 number low, illegal-is, e, f)
 
       told : {e : Effect} {t : Taken} {x : State} → csrStep (stateOf w) op number operand ≡ e → Tells (stateOf w) e t x
           → Tells (stateOf w) (csrStep (stateOf w) op number operand) t x
@@ -152,27 +182,33 @@ module _ (w : List ℕ) (fit : length w ≡ 41) where
       csr-illegal p el eo ea ex et =
           let i = onRegisters (stateOf w) (illegalInstruction (registersOf w)) in
           let k = apart-tells (stateOf w) i refl (left illegalInstruction el eo ea ex) in
-          told (by-tests (isPmp number) refl ∙ rw p) (et ∙ k .0, k .1)
+          told (by-tests (isPmp number) (eqb number 0x180) refl refl ∙ rw p) (et ∙ k .0, k .1)
 
       module _ (legal : b ≡ false) where
         pub csr-protection : {c : Bool} → c ≡ isPmp number → c ≡ true → {t : Taken} {x : State}
             → (t ≡ taken (stateOf w) (protectionStep (stateOf w) op number operand))
             → x ≡ protectionStep (stateOf w) op number operand .state
             → Tells (stateOf w) (csrStep (stateOf w) op number operand) t x
-        csr-protection e p et ex = told (by-tests true (sym e ∙ p) ∙ rw legal) (et, ex)
+        csr-protection e p et ex = told (by-tests true (eqb number 0x180) (sym e ∙ p) refl ∙ rw legal) (et, ex)
 
-        pub csr-register : {c : Bool} → c ≡ isPmp number → c ≡ false → {again : Registers} → again ≡ loadedRegisters w → {old : ℕ} → old ≡ registerRead again number
+        pub csr-satp : {c : Bool} → c ≡ isPmp number → c ≡ false → number ≡ 0x180 → {t : Taken} {x : State}
+            → (t ≡ taken (stateOf w) (satpStep (stateOf w) op operand))
+            → x ≡ satpStep (stateOf w) op operand .state
+            → Tells (stateOf w) (csrStep (stateOf w) op number operand) t x
+        csr-satp e p q et ex = told (by-tests false true (sym e ∙ p) (eq-eqb number 0x180 q) ∙ rw legal) (et, ex)
+
+        pub csr-register : {c : Bool} → c ≡ isPmp number → c ≡ false → (number ≡ 0x180 → ⊥) → {again : Registers} → again ≡ loadedRegisters w → {old : ℕ} → old ≡ registerRead again number
             → {pc : ℕ} → pc ≡ nextPc (registersOf w) → {v : List ℕ} → v ≡ storedRegisters (registersOperated (loadedRegisters w) op number operand old) w → {t : Taken}
             → t ≡ record { answer = DoneValue old; held = true; remap = false }
             → Tells (stateOf w) (csrStep (stateOf w) op number operand) t (stateOf (set v 1 pc))
-        csr-register e p el {old} eo {pc} ep {v} ev et =
+        csr-register e p q el {old} eo {pc} ep {v} ev et =
             let s = stateOf w in
             let g = registers-loaded w fit in
             let o : old ≡ registerRead (registersOf w) number = eo ∙ ap (λ (y : Registers). registerRead y number) (el ∙ g) in
             let f = registersOperated (loadedRegisters w) op number operand old in
             let z : stateOf v ≡ withRegisters s (registersOperated (registersOf w) op number operand (registerRead (registersOf w) number)) =
             ap stateOf ev ∙ registers-stored w fit f ∙ (λ j. withRegisters s (registersOperated (g j) op number operand (o j))) in
-            told (by-tests false (sym e ∙ p) ∙ rw legal) (
+            told (by-tests false false (sym e ∙ p) (ne-eqb number 0x180 q) ∙ rw legal) (
               et ∙ ap (λ (y : ℕ). record { answer = DoneValue y; held = true; remap = false }) o ∙ apart-taken s (registerStep s op number operand) refl,
               pc-stored v (ap length ev ∙ registers-length w fit f) pc ∙ (λ j. withRegisters (z j) (withPc (z j .registers) (ep j))),
             )
@@ -187,9 +223,22 @@ module _ (w : List ℕ) (fit : length w ≡ 41) where
         let o : old ≡ pmpRead (pmpOf w) number = eo ∙ ap (λ (y : Pmp). pmpRead y number) q in
         let f : after ≡ pmpOperated (pmpOf w) op number operand (pmpRead (pmpOf w) number) =
         ea ∙ (λ j. pmpOperated (q j) op number operand (o j)) in
-        let z : stateOf v ≡ record { registers = registersOf w; pmp = after } = ap stateOf ev ∙ pmp-stored w fit after t in (
+        let z : stateOf v ≡ withPmp (stateOf w) after = ap stateOf ev ∙ pmp-stored w fit after t in (
           (λ j. record { answer = DoneValue (o j); held = true; remap = not ((es ∙ (λ i. samePmp (q i) (f i))) j) }),
           pc-stored v (ap length ev ∙ pmp-length w fit after) pc
               ∙ (λ j. withRegisters (z j) (withPc (z j .registers) pc))
-              ∙ (λ j. record { registers = withPc (registersOf w) (epc j); pmp = f j }),
+              ∙ (λ j. withRegisters (withPmp (stateOf w) (f j)) (withPc (registersOf w) (epc j))),
+        )
+
+    -- a step on satp, from what was read, made of it and written
+    pub satp-done : {old : ℕ} → old ≡ loadedSatp w → {after : ℕ} → after ≡ satpOperated old op operand → {pc : ℕ} → pc ≡ nextPc (registersOf w)
+        → {v : List ℕ} → v ≡ storedSatp after w → {t : Taken} → t ≡ record { answer = DoneValue old; held = true; remap = false }
+        → Tells (stateOf w) (satpStep (stateOf w) op operand) t (stateOf (set v 1 pc))
+    satp-done {old} eo {after} ea {pc} epc {v} ev et =
+        let s = stateOf w in
+        let o : old ≡ s .satp = eo ∙ satp-loaded w fit in
+        let z : stateOf v ≡ withSatp s (satpOperated (s .satp) op operand) =
+        ap stateOf ev ∙ satp-stored w fit after ∙ ap (withSatp s) (ea ∙ ap (λ (y : ℕ). satpOperated y op operand) o) in (
+          et ∙ ap (λ (y : ℕ). record { answer = DoneValue y; held = true; remap = false }) o ∙ apart-taken s (satpStep s op operand) refl,
+          pc-stored v (ap length ev ∙ satp-length w fit after) pc ∙ (λ j. withRegisters (z j) (withPc (z j .registers) (epc j))),
         )

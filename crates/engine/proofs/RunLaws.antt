@@ -17,6 +17,7 @@ use Rattle.steps.specs.declared.Answer.the-variants.{Done, DoneValue, DoneFlag,
 use Rattle.steps.specs.Number.{answerInterrupt, answerNumbers}
 use Rattle.steps.specs.Decode.{decoded, stepsOf, nameSteps}
 use Rattle.steps.proofs.NumberLaws.{Named, nothing-left}
+use Rattle.paging.specs.Memory.{Memory}
 use Rattle.state.specs.declared.State.{State}
 use Rattle.state.specs.Hold.{canHold}
 use Rattle.state.specs.Words.{wordsOf, stateOf}
@@ -24,19 +25,19 @@ use Rattle.state.proofs.Back.{state-words}
 use Rattle.engine.specs.declared.Taken.{Taken}
 use Rattle.engine.specs.Effects.{ruledBy, stepRule}
 use Rattle.engine.specs.Taking.{stepTaken, remaps, namedTaken, namedState}
-use Rattle.engine.specs.Runs.{stateAfter, afterAll, answerAfter, answersOf, anyRemaps, ran}
+use Rattle.engine.specs.Runs.{lentTo, lent, stateAfter, afterAll, answerAfter, answersOf, anyRemaps, ran}
 use Rattle.engine.proofs.Plain.{ruled-plain}
 use Rattle.engine.proofs.TakingLaws.{still-held}
 
-taken-plain : (held : Bool) (s : State) (step : Step) → answerInterrupt (stepTaken held s step .answer) ≡ 0
+taken-plain : (held : Bool) (s : State) (m : Memory) (step : Step) → answerInterrupt (stepTaken held s m step .answer) ≡ 0
 unfolding stepTaken
-taken-plain held s step = ruled-plain s held step
+taken-plain held s m step = ruled-plain s m held step
 
-pub named-plain : (held : Bool) (s : State) (d : Decoded) {t : Taken} → t ≡ namedTaken held s d → answerInterrupt (t .answer) ≡ 0
-named-plain held s d e = ap (λ (x : Taken). answerInterrupt (x .answer)) e ∙ go d
+pub named-plain : (held : Bool) (s : State) (m : Memory) (d : Decoded) {t : Taken} → t ≡ namedTaken held s m d → answerInterrupt (t .answer) ≡ 0
+named-plain held s m d e = ap (λ (x : Taken). answerInterrupt (x .answer)) e ∙ go d
   where
-    go : (d′ : Decoded) → answerInterrupt (namedTaken held s d′ .answer) ≡ 0
-    go (Formed step) = taken-plain held s step
+    go : (d′ : Decoded) → answerInterrupt (namedTaken held s m d′ .answer) ≡ 0
+    go (Formed step) = taken-plain held s m step
     go Nothing = refl
 
 assoc-or : (a b c : Bool) → ((a || b) || c) ≡ (a || (b || c))
@@ -77,88 +78,88 @@ four-put l i a ev ex ey ez eu =
 
 -- ---- one turn of the loop
 
-module _ (l : List ℕ) (i : ℕ) (held : Bool) (s x : State) (t : Taken) (n : Named l i) (h : held ≡ canHold s)
-    (e : t ≡ namedTaken held s (decoded (getD l i 0) (getD l (i + 1) 0) (getD l (i + 2) 0)))
-    (f : x ≡ namedState held s (decoded (getD l i 0) (getD l (i + 1) 0) (getD l (i + 2) 0))) where
-  ruled : ruledBy held s (n .step) ≡ stepRule s (n .step)
+module _ (l : List ℕ) (i : ℕ) (m : Memory) (held : Bool) (s x : State) (t : Taken) (n : Named l i) (h : held ≡ canHold s)
+    (e : t ≡ namedTaken held s m (decoded (getD l i 0) (getD l (i + 1) 0) (getD l (i + 2) 0)))
+    (f : x ≡ namedState held s m (decoded (getD l i 0) (getD l (i + 1) 0) (getD l (i + 2) 0))) where
+  ruled : ruledBy held s m (n .step) ≡ stepRule s m (n .step)
   unfolding stepRule
   ruled = rw h
 
-  taken-is : t ≡ stepTaken held s (n .step)
-  taken-is = e ∙ ap (namedTaken held s) (n .formed)
+  taken-is : t ≡ stepTaken held s m (n .step)
+  taken-is = e ∙ ap (namedTaken held s m) (n .formed)
 
-  state-is : x ≡ stateAfter s (n .step)
-  state-is = f ∙ ap (namedState held s) (n .formed) ∙ ap (λ r. r .state) ruled
+  state-is : x ≡ stateAfter s (lentTo m (n .step))
+  state-is = f ∙ ap (namedState held s m) (n .formed) ∙ ap (λ r. r .state) ruled
 
   pub held-next : t .held ≡ canHold x
   unfolding stepTaken
-  held-next = ap (λ (y : Taken). y .held) taken-is ∙ still-held held s (n .step) h ∙ ap canHold (sym (f ∙ ap (namedState held s) (n .formed)))
+  held-next = ap (λ (y : Taken). y .held) taken-is ∙ still-held held s m (n .step) h ∙ ap canHold (sym (f ∙ ap (namedState held s m) (n .formed)))
 
-  pub state-next : afterAll x (stepsOf (drop (i + 3) l)) ≡ afterAll s (stepsOf (drop i l))
+  pub state-next : afterAll x (lent m (stepsOf (drop (i + 3) l))) ≡ afterAll s (lent m (stepsOf (drop i l)))
   unfolding fold
   state-next = rw (state-is, n .steps)
 
-  remap-is : t .remap ≡ remaps s (n .step)
+  remap-is : t .remap ≡ remaps s m (n .step)
   unfolding stepTaken
   remap-is = ap (λ (y : Taken). y .remap) taken-is ∙ rw ruled
 
-  pub remap-next : (r : Bool) → ((r || t .remap) || anyRemaps x (stepsOf (drop (i + 3) l))) ≡ (r || anyRemaps s (stepsOf (drop i l)))
+  pub remap-next : (r : Bool) → ((r || t .remap) || anyRemaps x (lent m (stepsOf (drop (i + 3) l)))) ≡ (r || anyRemaps s (lent m (stepsOf (drop i l))))
   unfolding anyStep
   remap-next r =
       rw (remap-is, state-is, n .steps)
-      (assoc-or r (remaps s (n .step)) (anyRemaps (stateAfter s (n .step)) (stepsOf (drop (i + 3) l))))
+      (assoc-or r (remaps s m (n .step)) (anyRemaps (stateAfter s (lentTo m (n .step))) (lent m (stepsOf (drop (i + 3) l)))))
 
-  answer-is : answerNumbers (t .answer) ≡ answerAfter s (n .step)
+  answer-is : answerNumbers (t .answer) ≡ answerAfter s (lentTo m (n .step))
   unfolding stepTaken
   answer-is = ap (λ (y : Taken). answerNumbers (y .answer)) taken-is ∙ ap (λ r. answerNumbers (r .answer)) ruled
 
   pub answers-next : (place : ℕ) (ans put : List ℕ) → put ≡ sets ans place (answerNumbers (t .answer))
-      → sets put (place + 4) (answersOf x (stepsOf (drop (i + 3) l))) ≡ sets ans place (answersOf s (stepsOf (drop i l)))
+      → sets put (place + 4) (answersOf x (lent m (stepsOf (drop (i + 3) l)))) ≡ sets ans place (answersOf s (lent m (stepsOf (drop i l))))
   unfolding outputs
   answers-next place ans put p =
-      ap (λ (y : List ℕ). sets y (place + 4) (answersOf x (stepsOf (drop (i + 3) l)))) p
-      ∙ answers-put ans place (t .answer) (answersOf x (stepsOf (drop (i + 3) l)))
+      ap (λ (y : List ℕ). sets y (place + 4) (answersOf x (lent m (stepsOf (drop (i + 3) l))))) p
+      ∙ answers-put ans place (t .answer) (answersOf x (lent m (stepsOf (drop (i + 3) l))))
       ∙ rw (answer-is, state-is, n .steps)
 
 -- ---- the end of the loop
 
-module _ (l : List ℕ) (i : ℕ) (s : State) (done : length l ≤ i) where
-  pub state-end : s ≡ afterAll s (stepsOf (drop i l))
+module _ (l : List ℕ) (i : ℕ) (m : Memory) (s : State) (done : length l ≤ i) where
+  pub state-end : s ≡ afterAll s (lent m (stepsOf (drop i l)))
   unfolding fold
   state-end = rw (nothing-left l i done)
 
-  pub remap-end : (r : Bool) → r ≡ (r || anyRemaps s (stepsOf (drop i l)))
+  pub remap-end : (r : Bool) → r ≡ (r || anyRemaps s (lent m (stepsOf (drop i l))))
   unfolding anyStep
   remap-end true = refl
   remap-end false = rw (nothing-left l i done)
 
-  pub answers-end : (place : ℕ) (ans : List ℕ) → ans ≡ sets ans place (answersOf s (stepsOf (drop i l)))
+  pub answers-end : (place : ℕ) (ans : List ℕ) → ans ≡ sets ans place (answersOf s (lent m (stepsOf (drop i l))))
   unfolding outputs
   answers-end place ans = rw (nothing-left l i done)
 
 -- ---- the call
 
 abbrev pub runTest : List ℕ → List ℕ → Bool
-runTest w steps = eqb (length w) 41 && nameSteps steps
+runTest w steps = eqb (length w) 42 && nameSteps steps
 
-module _ (w steps answers : List ℕ) where
-  pub unrun : runTest w steps ≡ false → ran w steps answers ≡ record { remap = false; words = w; answers = answers; state = stateOf w }
+module _ (w : List ℕ) (m : Memory) (steps answers : List ℕ) where
+  pub unrun : runTest w steps ≡ false → ran w m steps answers ≡ record { remap = false; words = w; answers = answers; state = stateOf w }
   unfolding ran
   unrun e = rw e
 
   -- the words left are those of the state left
-  pub run-done : runTest w steps ≡ true → (x : List ℕ) → Words 41 x → stateOf x ≡ afterAll (stateOf w) (stepsOf steps) → x ≡ ran w steps answers .words
+  pub run-done : runTest w steps ≡ true → (x : List ℕ) → Words 42 x → stateOf x ≡ afterAll (stateOf w) (lent m (stepsOf steps)) → x ≡ ran w m steps answers .words
   unfolding ran
   run-done e x t p = rw e (state-words x t p)
 
-  pub run-told : runTest w steps ≡ true → anyRemaps (stateOf w) (stepsOf steps) ≡ ran w steps answers .remap
+  pub run-told : runTest w steps ≡ true → anyRemaps (stateOf w) (lent m (stepsOf steps)) ≡ ran w m steps answers .remap
   unfolding ran
   run-told e = rw e
 
-  pub run-answered : runTest w steps ≡ true → sets answers 0 (answersOf (stateOf w) (stepsOf steps)) ≡ ran w steps answers .answers
+  pub run-answered : runTest w steps ≡ true → sets answers 0 (answersOf (stateOf w) (lent m (stepsOf steps))) ≡ ran w m steps answers .answers
   unfolding ran
   run-answered e = rw e
 
-  pub run-state : runTest w steps ≡ true → afterAll (stateOf w) (stepsOf steps) ≡ ran w steps answers .state
+  pub run-state : runTest w steps ≡ true → afterAll (stateOf w) (lent m (stepsOf steps)) ≡ ran w m steps answers .state
   unfolding ran
   run-state e = rw e

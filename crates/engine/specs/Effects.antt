@@ -1,11 +1,9 @@
--- 01, "Steps", and 02, [5]: what each of the eighteen steps does to the state and answers. No map is read.
+-- 01, "Steps", and 02, [5] and [8]: what each of the eighteen steps does to the state and answers, with the memory lent to it. No map is read.
 use Prim.Native.Nat.{ℕ}
 use mathlib.Core.Bool.{Bool, true, false, cond, _||_}
-use lib.Dec.{ltb}
+use lib.Dec.{eqb, ltb}
 use Rattle.pmp.specs.declared.Access.{Access}
 use Rattle.pmp.specs.declared.Access.the-variants.{Fetch, Load, Store}
-use Rattle.pmp.specs.declared.Decision.{Decision}
-use Rattle.pmp.specs.Rule.{checked}
 use Rattle.steps.specs.declared.Operation.{Operation}
 use Rattle.steps.specs.declared.Event.{Event}
 use Rattle.steps.specs.declared.Step.{Step}
@@ -18,6 +16,11 @@ use Rattle.registers.specs.Effective.{effectiveMode}
 use Rattle.protection.specs.declared.Pmp.{Pmp}
 use Rattle.protection.specs.Read.{isPmp, pmpRead}
 use Rattle.protection.specs.Write.{pmpWritten}
+use Rattle.paging.specs.declared.Context.{Context}
+use Rattle.paging.specs.declared.Reached.{Reached}
+use Rattle.paging.specs.Satp.{satpWritten}
+use Rattle.paging.specs.Memory.{Memory}
+use Rattle.paging.specs.Access.{reached}
 use Rattle.state.specs.declared.State.{State}
 use Rattle.state.specs.Hold.{canHold, resetState}
 use Rattle.csr.specs.Permit.{illegal, attemptsWrite}
@@ -40,10 +43,17 @@ effectOf s answer = record { state = s; answer = answer }
 abbrev pub refused : State → ℕ → Effect
 refused s number = effectOf s (Refused number)
 
--- a step that leaves the protection registers alone
+-- the state with one group of registers replaced
 abbrev pub withRegisters : State → Registers → State
-withRegisters s r = record { registers = r; pmp = s .pmp }
+withRegisters s r = record { registers = r; pmp = s .pmp; satp = s .satp }
 
+abbrev pub withPmp : State → Pmp → State
+withPmp s p = record { registers = s .registers; pmp = p; satp = s .satp }
+
+abbrev pub withSatp : State → ℕ → State
+withSatp s satp = record { registers = s .registers; pmp = s .pmp; satp = satp }
+
+-- a step that leaves the protection registers and satp alone
 abbrev pub onRegisters : State → Outcome → Effect
 onRegisters s o = effectOf (withRegisters s (o .registers)) (o .answer)
 
@@ -55,14 +65,20 @@ pmpOperated p op number operand old = cond (attemptsWrite op) (pmpWritten p numb
 
 -- a completed CSR step answers the old value and moves pc on by 4
 abbrev pub csrCompleted : State → ℕ → State → Effect
-csrCompleted s old after =
-    effectOf (record { registers = withPc (after .registers) (nextPc (s .registers)); pmp = after .pmp }) (DoneValue old)
+csrCompleted s old after = effectOf (withRegisters after (withPc (after .registers) (nextPc (s .registers)))) (DoneValue old)
 
 -- .. on a protection register
 abbrev pub protectionStep : State → Operation → ℕ → ℕ → Effect
 protectionStep s op number operand =
-    csrCompleted s (pmpRead (s .pmp) number)
-    (record { registers = s .registers; pmp = pmpOperated (s .pmp) op number operand (pmpRead (s .pmp) number) })
+    csrCompleted s (pmpRead (s .pmp) number) (withPmp s (pmpOperated (s .pmp) op number operand (pmpRead (s .pmp) number)))
+
+-- satp after an operation; MODE is judged on the value after set or clear
+abbrev pub satpOperated : ℕ → Operation → ℕ → ℕ
+satpOperated satp op operand = cond (attemptsWrite op) (satpWritten satp (operated op satp operand)) satp
+
+-- .. on satp
+abbrev pub satpStep : State → Operation → ℕ → Effect
+satpStep s op operand = csrCompleted s (s .satp) (withSatp s (satpOperated (s .satp) op operand))
 
 -- .. on any other
 abbrev pub registerStep : State → Operation → ℕ → ℕ → Effect
@@ -77,27 +93,32 @@ csrStep s op number operand =
     (refused s 2)
     (cond (illegal (s .registers) op number)
     (onRegisters s (illegalInstruction (s .registers)))
-    (cond (isPmp number) (protectionStep s op number operand) (registerStep s op number operand)))
+    (cond (isPmp number)
+    (protectionStep s op number operand)
+    (cond (eqb number 0x180) (satpStep s op operand) (registerStep s op number operand))))
 
 -- ---- accesses
 
--- a granted access changes nothing; a fault traps with tval the first byte's address; both tell the entry that decided
-abbrev pub accessDecided : State → ℕ → Decision → Effect
-accessDecided s address (Decision.Granted entry) = effectOf s (Granted entry)
-accessDecided s address (Decision.Fault cause entry) = onRegisters s (raisedBy (s .registers) cause address entry)
-accessDecided s address (Decision.Refused number) = refused s number
+-- a granted access changes nothing; a fault traps; both tell the entry that decided
+abbrev pub accessDecided : State → Reached → Effect
+accessDecided s (Reached.Granted entry) = effectOf s (Granted entry)
+accessDecided s (Reached.Fault cause tval entry) = onRegisters s (raisedBy (s .registers) cause tval entry)
+accessDecided s (Reached.Refused number) = refused s number
 
--- an access is judged on the registers, in its effective mode
-unfoldable pub accessAt : State → Access → ℕ → ℕ → Effect
-accessAt s access address size =
-    accessDecided s address
-    (checked (s .pmp .cfgs) (s .pmp .addrs) (effectiveMode (s .registers) access) access address size)
+-- what an access goes by: satp, SUM and MXR of mstatus, its effective mode and its kind
+abbrev pub contextOf : State → Access → Context
+contextOf s access =
+    record { satp = s .satp; mstatus = s .registers .mstatus; mode = effectiveMode (s .registers) access; access = access }
+
+-- an access is judged on the registers and the memory lent to it
+unfoldable pub accessAt : State → Memory → Access → ℕ → ℕ → Effect
+accessAt s m access address size = accessDecided s (reached (s .pmp) m (contextOf s access) address size)
 
 -- fetch of 4 bytes at pc; load and store of `size` bytes at `address`
-abbrev pub accessStep : State → Access → ℕ → ℕ → Effect
-accessStep s Fetch address size = accessAt s Fetch (s .registers .pc) 4
-accessStep s Load address size = accessAt s Load address size
-accessStep s Store address size = accessAt s Store address size
+abbrev pub accessStep : State → Memory → Access → ℕ → ℕ → Effect
+accessStep s m Fetch address size = accessAt s m Fetch (s .registers .pc) 4
+accessStep s m Load address size = accessAt s m Load address size
+accessStep s m Store address size = accessAt s m Store address size
 
 -- ---- all steps
 
@@ -106,11 +127,11 @@ abbrev pub eventEffect : State → Event → Effect
 eventEffect s event = onRegisters s (eventStep (s .registers) event)
 
 -- what each step does where refusal 3 does not apply
-abbrev pub effect : State → Step → Effect
-effect s Reset = effectOf resetState Done
-effect s (Csr op number operand) = csrStep s op number operand
-effect s (AccessStep access address size) = accessStep s access address size
-effect s (EventStep event) = eventEffect s event
+abbrev pub effect : State → Memory → Step → Effect
+effect s m Reset = effectOf resetState Done
+effect s m (Csr op number operand) = csrStep s op number operand
+effect s m (AccessStep access address size) = accessStep s m access address size
+effect s m (EventStep event) = eventEffect s event
 
 -- step 0
 abbrev pub isReset : Step → Bool
@@ -120,9 +141,9 @@ isReset (AccessStep access address size) = false
 isReset (EventStep event) = false
 
 -- refusal 3, where `held` says whether a hart can hold the state
-abbrev pub ruledBy : Bool → State → Step → Effect
-ruledBy held s step = cond (isReset step || held) (effect s step) (refused s 3)
+abbrev pub ruledBy : Bool → State → Memory → Step → Effect
+ruledBy held s m step = cond (isReset step || held) (effect s m step) (refused s 3)
 
--- the step rule. Refusal 3: the state given is not one a hart can hold, at any call but step 0; it comes before 1 and 2
-unfoldable pub stepRule : State → Step → Effect
-stepRule s step = ruledBy (canHold s) s step
+-- the step rule. Refusal 3: the state given is not one a hart can hold, at any call but step 0; it comes before 1, 2 and 13
+unfoldable pub stepRule : State → Memory → Step → Effect
+stepRule s m step = ruledBy (canHold s) s m step

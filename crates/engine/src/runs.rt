@@ -11,9 +11,10 @@ ghost use lib.ListN.{length, set};
 ghost use lib.Seq.{sets};
 ghost use Rattle.steps.specs.Number.{causeNumber, interruptNumber, answerInterrupt, answerNumbers};
 ghost use Rattle.steps.specs.Decode.{decoded, stepsOf, nameSteps};
+ghost use Rattle.paging.specs.Memory.{memoryAt};
 ghost use Rattle.state.specs.Words.{stateOf};
 ghost use Rattle.engine.specs.Taking.{namedTaken, namedState};
-ghost use Rattle.engine.specs.Runs.{afterAll, anyRemaps, answersOf, ran};
+ghost use Rattle.engine.specs.Runs.{lent, afterAll, anyRemaps, answersOf, ran};
 
 fn flag_number(flag: bool) -> u64
     ensures { λ r. ⌜ r ≡ cond flag 1 0 ⌝ }
@@ -74,13 +75,21 @@ fn put_answer(answer: Answer, answers: &mut [u64], place: usize)
 }
 
 // The step that three numbers name.
-fn take_named(words: &mut [u64], held: bool, number: u64, a: u64, b: u64) -> Taken
-    requires { ⌜ length (now words) ≡ 41 ⌝ }
-    ensures { λ r. ⌜ r ≡ namedTaken held (stateOf (now (words .entry))) (decoded number a b) ⌝ }
-    ensures { λ _. ⌜ stateOf (now (words .exit)) ≡ namedState held (stateOf (now (words .entry))) (decoded number a b) ⌝ }
+fn take_named(
+    words: &mut [u64],
+    memory: &[u64],
+    base: u64,
+    held: bool,
+    number: u64,
+    a: u64,
+    b: u64,
+) -> Taken
+    requires { ⌜ length (now words) ≡ 42 ⌝ }
+    ensures { λ r. ⌜ r ≡ namedTaken held (stateOf (now (words .entry))) (memoryAt (now (memory .entry)) base) (decoded number a b) ⌝ }
+    ensures { λ _. ⌜ stateOf (now (words .exit)) ≡ namedState held (stateOf (now (words .entry))) (memoryAt (now (memory .entry)) base) (decoded number a b) ⌝ }
 {
     match steps::decode(number, a, b) {
-        Decoded::Formed(step) => take(words, held, step),
+        Decoded::Formed(step) => take(words, memory, base, held, step),
         Decoded::Nothing => Taken {
             answer: Answer::Done,
             held,
@@ -90,18 +99,32 @@ fn take_named(words: &mut [u64], held: bool, number: u64, a: u64, b: u64) -> Tak
 }
 
 // All steps in order, each given what the one before left. A step has three words and its answer four. Gives whether the map has to be compiled anew.
-fn run_steps(words: &mut [u64], steps: &[u64], answers: &mut [u64]) -> bool
-    requires { ⌜ (length (now words) ≡ 41) × (nameSteps (now steps) ≡ true) ⌝ }
-    ensures { λ r. ⌜ r ≡ anyRemaps (stateOf (now (words .entry))) (stepsOf (now (steps .entry))) ⌝ }
-    ensures { λ _. ⌜ stateOf (now (words .exit)) ≡ afterAll (stateOf (now (words .entry))) (stepsOf (now (steps .entry))) ⌝ }
-    ensures { λ _. ⌜ now (answers .exit) ≡ sets (now (answers .entry)) 0 (answersOf (stateOf (now (words .entry))) (stepsOf (now (steps .entry)))) ⌝ }
+fn run_steps(
+    words: &mut [u64],
+    memory: &[u64],
+    base: u64,
+    steps: &[u64],
+    answers: &mut [u64],
+) -> bool
+    requires { ⌜ (length (now words) ≡ 42) × (nameSteps (now steps) ≡ true) ⌝ }
+    ensures { λ r. ⌜ r ≡ anyRemaps (stateOf (now (words .entry))) (lent (memoryAt (now (memory .entry)) base) (stepsOf (now (steps .entry)))) ⌝ }
+    ensures { λ _. ⌜ stateOf (now (words .exit)) ≡ afterAll (stateOf (now (words .entry))) (lent (memoryAt (now (memory .entry)) base) (stepsOf (now (steps .entry)))) ⌝ }
+    ensures { λ _. ⌜ now (answers .exit) ≡ sets (now (answers .entry)) 0 (answersOf (stateOf (now (words .entry))) (lent (memoryAt (now (memory .entry)) base) (stepsOf (now (steps .entry))))) ⌝ }
 {
     let mut held = state::words_can_hold(words);
     let mut remap = false;
     let mut i: usize = 0;
     let mut place: usize = 0;
     while i < steps.len() {
-        let next = take_named(words, held, steps[i], steps[i + 1], steps[i + 2]);
+        let next = take_named(
+            words,
+            memory,
+            base,
+            held,
+            steps[i],
+            steps[i + 1],
+            steps[i + 2],
+        );
         let answer = next.answer;
         put_answer(answer, answers, place);
         held = next.held;
@@ -113,15 +136,15 @@ fn run_steps(words: &mut [u64], steps: &[u64], answers: &mut [u64]) -> bool
 }
 
 // Runs the steps that the numbers name, three for each, on the words of a hart, and writes their answers, four words each, from the front of a slice, as
-// far as it goes. Gives whether the map has to be compiled anew. Where the words are not 41, or three numbers name no step, nothing is done.
-pub fn run(words: &mut [u64], steps: &[u64], answers: &mut [u64]) -> bool
-    ensures { λ r. ⌜ r ≡ ran (now (words .entry)) (now (steps .entry)) (now (answers .entry)) .remap ⌝ }
-    ensures { λ _. ⌜ now (words .exit) ≡ ran (now (words .entry)) (now (steps .entry)) (now (answers .entry)) .words ⌝ }
-    ensures { λ _. ⌜ now (answers .exit) ≡ ran (now (words .entry)) (now (steps .entry)) (now (answers .entry)) .answers ⌝ }
-    ensures { λ _. ⌜ stateOf (now (words .exit)) ≡ ran (now (words .entry)) (now (steps .entry)) (now (answers .entry)) .state ⌝ }
+// far as it goes. Gives whether the map has to be compiled anew. Where the words are not 42, or three numbers name no step, nothing is done.
+pub fn run(words: &mut [u64], memory: &[u64], base: u64, steps: &[u64], answers: &mut [u64]) -> bool
+    ensures { λ r. ⌜ r ≡ ran (now (words .entry)) (memoryAt (now (memory .entry)) base) (now (steps .entry)) (now (answers .entry)) .remap ⌝ }
+    ensures { λ _. ⌜ now (words .exit) ≡ ran (now (words .entry)) (memoryAt (now (memory .entry)) base) (now (steps .entry)) (now (answers .entry)) .words ⌝ }
+    ensures { λ _. ⌜ now (answers .exit) ≡ ran (now (words .entry)) (memoryAt (now (memory .entry)) base) (now (steps .entry)) (now (answers .entry)) .answers ⌝ }
+    ensures { λ _. ⌜ stateOf (now (words .exit)) ≡ ran (now (words .entry)) (memoryAt (now (memory .entry)) base) (now (steps .entry)) (now (answers .entry)) .state ⌝ }
 {
-    if !((words.len() == 41) & steps::name_steps(steps)) {
+    if !((words.len() == 42) & steps::name_steps(steps)) {
         return false;
     }
-    run_steps(words, steps, answers)
+    run_steps(words, memory, base, steps, answers)
 }

@@ -7,6 +7,7 @@ use steps::Answer;
 use steps::Step;
 ghost use mathlib.Core.Path.{_≡_};
 ghost use lib.ListN.{length};
+ghost use Rattle.paging.specs.Memory.{memoryAt};
 ghost use Rattle.state.specs.Words.{stateOf};
 ghost use Rattle.engine.specs.Effects.{isReset, effect, ruledBy};
 ghost use Rattle.engine.specs.Taking.{effectTaken, stepTaken};
@@ -24,10 +25,10 @@ fn is_reset(step: Step) -> bool
 }
 
 // What a step does where refusal 3 does not apply. No map is read.
-fn take_effect(words: &mut [u64], step: Step) -> Taken
-    requires { ⌜ length (now words) ≡ 41 ⌝ }
-    ensures { λ r. ⌜ r ≡ effectTaken (stateOf (now (words .entry))) step ⌝ }
-    ensures { λ _. ⌜ stateOf (now (words .exit)) ≡ effect (stateOf (now (words .entry))) step .state ⌝ }
+fn take_effect(words: &mut [u64], memory: &[u64], base: u64, step: Step) -> Taken
+    requires { ⌜ length (now words) ≡ 42 ⌝ }
+    ensures { λ r. ⌜ r ≡ effectTaken (stateOf (now (words .entry))) (memoryAt (now (memory .entry)) base) step ⌝ }
+    ensures { λ _. ⌜ stateOf (now (words .exit)) ≡ effect (stateOf (now (words .entry))) (memoryAt (now (memory .entry)) base) step .state ⌝ }
 {
     match step {
         Step::Reset => {
@@ -40,7 +41,7 @@ fn take_effect(words: &mut [u64], step: Step) -> Taken
         }
         Step::Csr(operation, number, operand) => step_csr(words, operation, number, operand),
         Step::Access(access, address, size) => Taken {
-            answer: step_access(words, access, address, size),
+            answer: step_access(words, memory, base, access, address, size),
             held: true,
             remap: false,
         },
@@ -53,13 +54,13 @@ fn take_effect(words: &mut [u64], step: Step) -> Taken
 }
 
 // A step, where it is known whether a hart can hold the state.
-pub(crate) fn take(words: &mut [u64], held: bool, step: Step) -> Taken
-    requires { ⌜ length (now words) ≡ 41 ⌝ }
-    ensures { λ r. ⌜ r ≡ stepTaken held (stateOf (now (words .entry))) step ⌝ }
-    ensures { λ _. ⌜ stateOf (now (words .exit)) ≡ ruledBy held (stateOf (now (words .entry))) step .state ⌝ }
+pub(crate) fn take(words: &mut [u64], memory: &[u64], base: u64, held: bool, step: Step) -> Taken
+    requires { ⌜ length (now words) ≡ 42 ⌝ }
+    ensures { λ r. ⌜ r ≡ stepTaken held (stateOf (now (words .entry))) (memoryAt (now (memory .entry)) base) step ⌝ }
+    ensures { λ _. ⌜ stateOf (now (words .exit)) ≡ ruledBy held (stateOf (now (words .entry))) (memoryAt (now (memory .entry)) base) step .state ⌝ }
 {
     if is_reset(step) | held {
-        return take_effect(words, step);
+        return take_effect(words, memory, base, step);
     }
     Taken {
         answer: Answer::Refused(3),
@@ -70,9 +71,9 @@ pub(crate) fn take(words: &mut [u64], held: bool, step: Step) -> Taken
 
 // A step on the words of a hart, which their state determines. Refusal 3 goes by `held`: whoever calls says whether a hart can hold that state, and where that is
 // true the step says it truly of the state that it leaves.
-pub fn step(words: &mut [u64; 41], held: bool, step: Step) -> Taken
-    ensures { λ r. ⌜ r ≡ stepTaken held (stateOf (now (words .entry))) step ⌝ }
-    ensures { λ _. ⌜ stateOf (now (words .exit)) ≡ ruledBy held (stateOf (now (words .entry))) step .state ⌝ }
+pub fn step(words: &mut [u64; 42], memory: &[u64], base: u64, held: bool, step: Step) -> Taken
+    ensures { λ r. ⌜ r ≡ stepTaken held (stateOf (now (words .entry))) (memoryAt (now (memory .entry)) base) step ⌝ }
+    ensures { λ _. ⌜ stateOf (now (words .exit)) ≡ ruledBy held (stateOf (now (words .entry))) (memoryAt (now (memory .entry)) base) step .state ⌝ }
 {
-    take(words, held, step)
+    take(words, memory, base, held, step)
 }

@@ -1,4 +1,4 @@
--- 01, "Steps": a step by a hart takes the state and its map and hands both back.
+-- 01, "Steps", and 02, [8]: a step by a hart takes the state, its map and the memory lent to it, and hands state and map back.
 use Prim.Native.Nat.{ℕ}
 use mathlib.Core.Bool.{cond}
 use mathlib.Core.List.{List}
@@ -9,6 +9,7 @@ use Rattle.steps.specs.Number.{answerNumbers}
 use Rattle.protection.specs.declared.Pmp.{Pmp}
 use Rattle.protection.specs.Hold.{resetPmp}
 use Rattle.protection.specs.Same.{samePmp}
+use Rattle.paging.specs.Memory.{Memory}
 use Rattle.state.specs.declared.State.{State}
 use Rattle.state.specs.Hold.{resetState}
 use Rattle.map.specs.declared.Map.{Map}
@@ -44,9 +45,9 @@ abbrev pub resetDone : Stepped
 resetDone = handedBack (resetMapped .hart) (resetMapped .map) Done
 
 -- a step of any state, held or not
-unfoldable pub stepped : Hart → Map → Step → Stepped
-stepped h map step = cond (isReset step) resetDone (withMap h map (stepRule (h .state) step))
+unfoldable pub stepped : Hart → Map → Memory → Step → Stepped
+stepped h map m step = cond (isReset step) resetDone (withMap h map (stepRule (h .state) m step))
 
 -- the number and values of its answer
-abbrev pub stepNumbers : Hart → Map → Step → List ℕ
-stepNumbers h map step = answerNumbers (stepped h map step .answer)
+abbrev pub stepNumbers : Hart → Map → Memory → Step → List ℕ
+stepNumbers h map m step = answerNumbers (stepped h map m step .answer)

@@ -18,12 +18,15 @@ impl Hart {
         if !self.can_hold() {
             return Answer::Refused(3);
         }
-        let state = self.state;
-        if text::write(state::to_words(state), buffer) {
-            Answer::Done
-        } else {
-            Answer::Refused(6)
+        if buffer.len() < 1027 {
+            return Answer::Refused(6);
         }
+        let state = self.state;
+        if !state::has_text(state) {
+            return Answer::Refused(12);
+        }
+        text::write(state::to_text_words(state), buffer);
+        Answer::Done
     }
 
     // Reads a text back: its hart, with the map compiled for it. A refused text hands back the hart and map that were given.
@@ -40,9 +43,9 @@ impl Hart {
             };
         }
         let words = reading.words;
-        let state = state::of_words(words);
+        let state = state::of_text_words(words);
         let hart = Hart { state };
-        if !hart.can_hold() {
+        if !(hart.can_hold() & state::has_text(state)) {
             return Stepped {
                 hart: self,
                 map,

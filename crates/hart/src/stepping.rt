@@ -7,6 +7,7 @@ use protection::Pmp;
 use steps::Step;
 ghost use mathlib.Core.Path.{_≡_};
 ghost use Rattle.steps.specs.Number.{answerNumbers};
+ghost use Rattle.paging.specs.Memory.{memoryAt};
 ghost use Rattle.state.specs.Hold.{canHold};
 ghost use Rattle.hart.specs.Steps.{mapFor, resetMapped, stepped, stepNumbers};
 
@@ -39,15 +40,16 @@ impl Hart {
         Mapped { hart, map }
     }
 
-    // One step: what 01's "Steps" says of it. A refusal hands back hart and map as they were.
-    pub fn step(self, map: Map, step: Step) -> Stepped
-        ensures { λ r. ⌜ r ≡ stepped self map step ⌝ }
-        ensures { λ r. ⌜ answerNumbers (r .answer) ≡ stepNumbers self map step ⌝ }
+    // One step: what 01's "Steps" says of it, with page tables in the words of `memory`, which stand at the physical address `base`. A refusal hands back
+    // hart and map as they were.
+    pub fn step(self, map: Map, memory: &[u64], base: u64, step: Step) -> Stepped
+        ensures { λ r. ⌜ r ≡ stepped self map (memoryAt (now (memory .entry)) base) step ⌝ }
+        ensures { λ r. ⌜ answerNumbers (r .answer) ≡ stepNumbers self map (memoryAt (now (memory .entry)) base) step ⌝ }
     {
         let state = self.state;
         let mut words = state::to_words(state);
         let held = state::words_can_hold(&words);
-        let taken = engine::step(&mut words, held, step);
+        let taken = engine::step(&mut words, memory, base, held, step);
         let answer = taken.answer;
         let after = state::of_words(words);
         let hart = Hart { state: after };

@@ -3,11 +3,12 @@ use mathlib.Core.Path.{_≡_, refl, sym, ap}
 use mathlib.Core.Bool.{Bool, true, false, cond, _&&_}
 use Prim.Native.Nat.{ℕ, zero, suc, _+_, _-_, _*_, _/_, _%_, _^_, _≤_, _<_, min}
 use native.Mathlib.Nat.{pow-suc}
+use native.Mathlib.Decide.{decLt}
 use native.Mathlib.Omega.{arith}
 use lib.Count.{trailingZeros, under}
 use lib.Dec.{leb, ltb, eqb}
 use lib.Pow.{pow-add, pow-lt, pow-mono, pow-pos}
-use borrow.Author.Tests.{leb-true, ltb-true, le-leb, lt-leb, lt-ltb}
+use borrow.Author.Tests.{leb-true, ltb-true, le-leb, lt-leb, lt-ltb, le-ltb}
 use Rattle.bits.proofs.Conjunction.{contradiction, both, join, not-true-false}
 use Rattle.pmp.specs.declared.Span.{Span}
 use Rattle.pmp.specs.Search.{anyByte, everyByte}
@@ -148,3 +149,50 @@ contains-none s size address e =
     (λ t.
     let w = contains-bounds s b t in
     contradiction (join _ _ (lt-ltb address (s .high) (omega arith)) (lt-ltb (s .low) (address + size) (omega arith))) e))
+
+-- ---- an access by its words: it overlaps an entry of whole words where its first word comes before the entry's end, and its end behind the entry's start
+
+module _ (address size : ℕ) (some : 0 < size) (inside : address + size ≤ top) where
+  -- the first word is below w where the first byte is below the start of word w, cut at the end of memory
+  first-below : (w : ℕ) → ltb (address / 4) w ≡ ltb address (min (4 * w) top)
+  first-below w = go (decLt (address / 4) w)
+    where
+      go : Dec (address / 4 < w) → ltb (address / 4) w ≡ ltb address (min (4 * w) top)
+      go (yes l) = let k : address < min (4 * w) top = omega arith in rw (lt-ltb (address / 4) w l, lt-ltb address (min (4 * w) top) k)
+      go (no l) =
+          let h : w ≤ address / 4 = omega arith in
+          let k : min (4 * w) top ≤ address = omega arith in
+          rw (le-ltb (address / 4) w h, le-ltb address (min (4 * w) top) k)
+
+  -- and word w is below the end where its start is
+  end-above : (w : ℕ) → ltb w ((address + size + 3) / 4) ≡ ltb (min (4 * w) top) (address + size)
+  end-above w = go (decLt w ((address + size + 3) / 4))
+    where
+      go : Dec (w < (address + size + 3) / 4) → ltb w ((address + size + 3) / 4) ≡ ltb (min (4 * w) top) (address + size)
+      go (yes l) =
+          let k : min (4 * w) top < address + size = omega arith in
+          rw (lt-ltb w ((address + size + 3) / 4) l, lt-ltb (min (4 * w) top) (address + size) k)
+      go (no l) =
+          let h : (address + size + 3) / 4 ≤ w = omega arith in
+          let k : address + size ≤ min (4 * w) top = omega arith in
+          rw (le-ltb w ((address + size + 3) / 4) h, le-ltb (min (4 * w) top) (address + size) k)
+
+-- the bytes of a span and those of an access overlap
+abbrev pub overlaps : Span → ℕ → ℕ → Bool
+overlaps s address size = ltb address (s .high) && ltb (s .low) (address + size)
+
+module _ (address size addr before : ℕ) where
+  pub off-overlaps : overlaps (spanOf 0 addr before) address size ≡ false
+  unfolding spanOf
+  off-overlaps = rw (le-ltb address 0 (omega arith))
+
+  module _ (some : 0 < size) (inside : address + size ≤ top) where
+    pub tor-overlaps : overlaps (spanOf 1 addr before) address size ≡ (ltb (address / 4) addr && ltb before ((address + size + 3) / 4))
+    unfolding spanOf
+    tor-overlaps = rw (first-below address size some inside addr, end-above address size some inside before)
+
+    pub na4-overlaps : overlaps (spanOf 2 addr before) address size ≡ (ltb (address / 4) (addr + 1) && ltb addr ((address + size + 3) / 4))
+    unfolding spanOf
+    na4-overlaps =
+        let next : 4 * (addr + 1) ≡ 4 * addr + 4 = omega arith in
+        rw (end-above address size some inside addr, first-below address size some inside (addr + 1), next)

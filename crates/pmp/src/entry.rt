@@ -57,11 +57,14 @@ pub fn entry_span(cfg: u8, addr: u64, before: u64) -> Span
             high: word_start(addr),
         },
         2 => {
-            let low = word_start(addr);
-            if low < TOP {
+            if addr < TOP_WORD {
+                let low = addr * 4;
                 Span { low, high: low + 4 }
             } else {
-                Span { low, high: TOP }
+                Span {
+                    low: TOP,
+                    high: TOP,
+                }
             }
         }
         _ => napot_span(addr),

@@ -4,15 +4,75 @@ use crate::Span;
 use crate::entry::contains;
 use crate::entry::entry_span;
 ghost use mathlib.Core.Path.{_≡_};
+ghost use mathlib.Core.Bool.{true, false, _&&_};
+ghost use lib.Dec.{ltb};
 ghost use Prim.Native.Nat.{_+_, _≤_, _<_};
 ghost use lib.ListN.{getD};
 ghost use Rattle.pmp.specs.Search.{everyByte};
-ghost use Rattle.pmp.specs.Entry.{top, entrySpan, contains};
+ghost use Rattle.pmp.specs.Entry.{top, spanOf, fieldA, entrySpan, contains};
 ghost use Rattle.pmp.specs.Rule.{lowestMatch};
+
+// The bytes of an entry, where some of those from its first to its last are the access's too.
+struct Overlap {
+    some: bool,
+    span: Span,
+}
+
+fn apart() -> Overlap
+    ensures { λ r. ⌜ r .some ≡ false ⌝ }
+{
+    Overlap {
+        some: false,
+        span: Span { low: 0, high: 0 },
+    }
+}
+
+// TOR and NA4 are compared by words, so that their bytes are formed only where they are needed.
+fn overlapping(cfg: u8, addr: u64, before: u64, address: u64, size: u64) -> Overlap
+    requires { ⌜ (0 < size) × (address + size ≤ top) ⌝ }
+    ensures { λ r. ⌜ r .some ≡ (ltb address (spanOf (fieldA cfg) addr before .high) && ltb (spanOf (fieldA cfg) addr before .low) (address + size)) ⌝ }
+    ensures { λ r. ⌜ (r .some ≡ true → r .span ≡ spanOf (fieldA cfg) addr before) ⌝ }
+{
+    let first = address / 4;
+    let end = (address + size + 3) / 4;
+    let a = cfg / 8 % 4;
+    if a < 2 {
+        if a == 0 {
+            return apart();
+        }
+        if addr <= first {
+            return apart();
+        }
+        if end <= before {
+            return apart();
+        }
+        return Overlap {
+            some: true,
+            span: entry_span(cfg, addr, before),
+        };
+    }
+    if a == 2 {
+        if addr < first {
+            return apart();
+        }
+        if end <= addr {
+            return apart();
+        }
+        return Overlap {
+            some: true,
+            span: entry_span(cfg, addr, before),
+        };
+    }
+    let span = entry_span(cfg, addr, before);
+    Overlap {
+        some: (address < span.high) & (span.low < address + size),
+        span,
+    }
+}
 
 // The lowest entry that matches any byte of the access. It is told with its byte and its span, so that neither is looked up again.
 pub(crate) fn lowest_match(cfgs: [u8; 16], addrs: [u64; 16], address: u64, size: u64) -> Found
-    requires { ⌜ address + size ≤ top ⌝ }
+    requires { ⌜ (0 < size) × (address + size ≤ top) ⌝ }
     ensures { λ r. ⌜ r .entry ≡ lowestMatch (entrySpan cfgs addrs) address size ⌝ }
     ensures { λ r. ⌜ (r .entry < 16 → (r .cfg ≡ getD cfgs (r .entry) 0) × (r .span ≡ entrySpan cfgs addrs (r .entry))) ⌝ }
 {
@@ -28,9 +88,10 @@ pub(crate) fn lowest_match(cfgs: [u8; 16], addrs: [u64; 16], address: u64, size:
         }
         let addr = addrs[entry];
         let cfg = cfgs[entry];
-        let span = entry_span(cfg, addr, before);
-        // Where no byte of the access can lie in the span, none is looked at.
-        if (address < span.high) & (span.low < address + size) {
+        // Where no byte of the access can be the entry's, none is looked at.
+        let overlap = overlapping(cfg, addr, before, address, size);
+        if overlap.some {
+            let span = overlap.span;
             let mut byte = 0;
             while byte < size {
                 if contains(span, address + byte) {

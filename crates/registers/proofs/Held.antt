@@ -18,7 +18,7 @@ use Rattle.registers.specs.Status.{ppMask, mppTwo}
 use Rattle.registers.specs.Hold.{aligned, keptStatus, statusHoldable, interruptsHoldable, levelHoldable, registersHoldable, resetRegisters}
 use Rattle.registers.specs.Update.{withFlow, withMedeleg, withInterrupts, withCounters, levelOf, withLevel}
 
--- mstatus = 0xA00000000 plus bits within 0x7A19AA; MPP not 2
+-- mstatus = 0xA00000000 plus bits within 0x7E19AA; MPP not 2
 pub record StatusHeld (mstatus : ℕ) : Type 0 where
   pub kept : eqb (keptStatus mstatus) mstatus ≡ true
   pub mpp : not (eqb (bitAnd mstatus (ppMask Machine)) mppTwo) ≡ true

@@ -1,4 +1,4 @@
--- 01, "What a hart can hold".
+-- 01, "What a hart can hold", with the masks of 02, [8].
 use Prim.Native.Nat.{ℕ, _%_}
 use mathlib.Core.Bool.{Bool, not, _&&_}
 use lib.Bits.{bitAnd, bitOr}
@@ -20,7 +20,7 @@ aligned address = eqb (address % 4) 0
 abbrev pub keptStatus : ℕ → ℕ
 keptStatus mstatus = bitOr (bitAnd mstatus mstatusMask) sxlUxl
 
--- mstatus = 0xA00000000 plus bits within 0x7A19AA, MPP not 2
+-- mstatus = 0xA00000000 plus bits within 0x7E19AA, MPP not 2
 abbrev pub statusHoldable : ℕ → Bool
 statusHoldable mstatus = eqb (keptStatus mstatus) mstatus && not (eqb (bitAnd mstatus (ppMask Machine)) mppTwo)
 

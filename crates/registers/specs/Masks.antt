@@ -1,22 +1,23 @@
--- 01, "What a hart can hold": the bits of each register that a hart can hold.
+-- 01, "What a hart can hold", and 02, [8]: the bits of each register that a hart can hold.
 use Prim.Native.Nat.{ℕ}
 
--- mstatus = 0xA00000000 (SXL=UXL=2) plus bits within 0x7A19AA
+-- mstatus = 0xA00000000 (SXL=UXL=2) plus bits within 0x7E19AA
 abbrev pub mstatusMask : ℕ
-mstatusMask = 0x7A19AA
+mstatusMask = 0x7E19AA
 
 abbrev pub sxlUxl : ℕ
 sxlUxl = 0xA00000000
 
--- 01, "Registers and access to them": sstatus within 0x80122, plus UXL
+-- 01, "Registers and access to them", with SUM of 02, [8]: sstatus within 0xC0122, plus UXL
 abbrev pub sstatusMask : ℕ
-sstatusMask = 0x80122
+sstatusMask = 0xC0122
 
 abbrev pub uxl : ℕ
 uxl = 0x200000000
 
+-- exceptions 0 to 9 and, by 02, [8], the page faults 12, 13 and 15
 abbrev pub medelegMask : ℕ
-medelegMask = 0x3FF
+medelegMask = 0xB3FF
 
 abbrev pub midelegMask : ℕ
 midelegMask = 0x222

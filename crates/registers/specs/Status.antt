@@ -51,6 +51,13 @@ mprvMask = 0x20000
 abbrev pub mprv : ℕ → Bool
 mprv mstatus = testBit mstatus 17
 
+-- 02, [8]: SUM is writable
+abbrev pub sum : ℕ → Bool
+sum mstatus = testBit mstatus 18
+
+abbrev pub mxr : ℕ → Bool
+mxr mstatus = testBit mstatus 19
+
 abbrev pub tvm : ℕ → Bool
 tvm mstatus = testBit mstatus 20
 

@@ -20,6 +20,10 @@ pub const MPP_TWO: u64 = 0x1000;
 
 pub const MPRV: u64 = 0x20000;
 
+pub const SUM: u64 = 0x40000;
+
+pub const MXR: u64 = 0x80000;
+
 pub const TVM: u64 = 0x100000;
 
 pub const TW: u64 = 0x200000;

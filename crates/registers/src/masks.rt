@@ -1,15 +1,15 @@
 // The bits of each register that a hart can hold.
 
 // mstatus, beside SXL=UXL=2.
-pub const MSTATUS: u64 = 0x7A19AA;
+pub const MSTATUS: u64 = 0x7E19AA;
 
 pub const SXL_UXL: u64 = 0xA00000000;
 
 pub const UXL: u64 = 0x200000000;
 
-pub const SSTATUS: u64 = 0x80122;
+pub const SSTATUS: u64 = 0xC0122;
 
-pub const MEDELEG: u64 = 0x3FF;
+pub const MEDELEG: u64 = 0xB3FF;
 
 pub const MIDELEG: u64 = 0x222;
 

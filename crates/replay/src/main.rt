@@ -1,13 +1,18 @@
-// replay [START]: replays the trace on standard input from the saved text in the file START, or from reset.
+// replay [START] [MEMORY]: replays the trace on standard input from the saved text in the file START, or from reset, with the words in the file MEMORY for
+// page tables, or none.
 use libc::STDERR_FILENO;
 use libc::STDIN_FILENO;
 use libc::STDOUT_FILENO;
 
 fn usage(fd: i32) {
-    io::write_all(fd, b"usage: replay [START] <TRACE\n");
+    io::write_all(fd, b"usage: replay [START] [MEMORY] <TRACE\n");
     io::write_all(
         fd,
-        b"Replays a trace from the saved text in the file START, or from reset.\n",
+        b"Replays a trace from the saved text in the file START, or from reset, with the words\n",
+    );
+    io::write_all(
+        fd,
+        b"in the file MEMORY for page tables, or none. Either may be `-`, for no file.\n",
     );
     io::write_all(
         fd,
@@ -24,37 +29,54 @@ fn wrong(what: &[u8], argument: &[u8]) {
     usage(STDERR_FILENO);
 }
 
+// `-` alone is no option.
 fn is_option(argument: &[u8]) -> bool {
-    0 < argument.len() && argument[0] == b'-'
+    1 < argument.len() && argument[0] == b'-'
 }
 
-fn with_argument(argument: &[u8]) {
-    if check::same(argument, b"--help") {
+fn with_arguments(start: &[u8], memory: &[u8]) {
+    if check::same(start, b"--help") {
         usage(STDOUT_FILENO);
-    } else if is_option(argument) {
-        wrong(b"unknown option ", argument);
+    } else if is_option(start) {
+        wrong(b"unknown option ", start);
+    } else if is_option(memory) {
+        wrong(b"unknown option ", memory);
     } else {
-        replay_stream::from_file(argument, STDIN_FILENO);
+        replay_stream::from_paths(start, memory, STDIN_FILENO);
     }
 }
 
-fn read_argument() {
-    let mut argument = io::buffer();
-    let n = os::arg(1, &mut argument);
+fn read_memory(start: &[u8]) {
+    let mut memory = io::buffer();
+    let n = os::arg(2, &mut memory);
+    if os::errno() != 0 {
+        os::fail(b"MEMORY");
+        return;
+    }
+    with_arguments(start, &memory[..n]);
+}
+
+fn read_arguments(count: usize) {
+    let mut start = io::buffer();
+    let n = os::arg(1, &mut start);
     if os::errno() != 0 {
         os::fail(b"START");
         return;
     }
-    with_argument(&argument[..n]);
+    if 2 < count {
+        read_memory(&start[..n]);
+    } else {
+        with_arguments(&start[..n], b"-");
+    }
 }
 
 fn main() {
     let count = os::arg_count();
-    if 2 < count {
+    if 3 < count {
         wrong(b"too many arguments", b"");
-    } else if count == 2 {
-        read_argument();
+    } else if 1 < count {
+        read_arguments(count);
     } else {
-        replay_stream::from_reset(STDIN_FILENO);
+        with_arguments(b"-", b"-");
     }
 }

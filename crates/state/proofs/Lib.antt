@@ -2,3 +2,4 @@
 pub mod Back
 pub mod SliceLaws
 pub mod Held
+pub mod TextLaws

@@ -2,3 +2,4 @@
 pub mod Hold
 pub mod Words
 pub mod Slices
+pub mod Texts

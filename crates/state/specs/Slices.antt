@@ -1,9 +1,9 @@
--- The words of a state in a slice: 41 of them. A slice of another length reads as the reset state, and stays as it is.
+-- The words of a state in a slice: 42 of them. A slice of another length reads as the reset state, and stays as it is.
 use Prim.Native.Nat.{ℕ}
 use mathlib.Core.Bool.{cond}
 use mathlib.Core.List.{List}
 use lib.Dec.{eqb}
-use lib.ListN.{length}
+use lib.ListN.{length, getD, set}
 use lib.Seq.{sets}
 use Rattle.registers.specs.declared.Registers.{Registers}
 use Rattle.registers.specs.Hold.{resetRegisters}
@@ -12,9 +12,9 @@ use Rattle.protection.specs.Hold.{resetPmp}
 use Rattle.state.specs.declared.State.{State}
 use Rattle.state.specs.Words.{registerWords, pmpWords, registersOf, pmpOf}
 
--- one for a slice of 41 words, and the other for any other
+-- one for a slice of 42 words, and the other for any other
 abbrev pub byLength : {A : Type 0} → List ℕ → A → A → A
-byLength w x y = cond (eqb (length w) 41) x y
+byLength w x y = cond (eqb (length w) 42) x y
 
 unfoldable pub loadedRegisters : List ℕ → Registers
 loadedRegisters w = byLength w (registersOf w) resetRegisters
@@ -22,8 +22,11 @@ loadedRegisters w = byLength w (registersOf w) resetRegisters
 unfoldable pub loadedPmp : List ℕ → Pmp
 loadedPmp w = byLength w (pmpOf w) resetPmp
 
+unfoldable pub loadedSatp : List ℕ → ℕ
+loadedSatp w = byLength w (getD w 41 0) 0
+
 abbrev pub loaded : List ℕ → State
-loaded w = record { registers = loadedRegisters w; pmp = loadedPmp w }
+loaded w = record { registers = loadedRegisters w; pmp = loadedPmp w; satp = loadedSatp w }
 
 unfoldable pub storedRegisters : Registers → List ℕ → List ℕ
 storedRegisters r w = byLength w (sets w 0 (registerWords r)) w
@@ -31,5 +34,8 @@ storedRegisters r w = byLength w (sets w 0 (registerWords r)) w
 unfoldable pub storedPmp : Pmp → List ℕ → List ℕ
 storedPmp p w = byLength w (sets w 23 (pmpWords p)) w
 
+unfoldable pub storedSatp : ℕ → List ℕ → List ℕ
+storedSatp satp w = byLength w (set w 41 satp) w
+
 abbrev pub stored : State → List ℕ → List ℕ
-stored s w = storedPmp (s .pmp) (storedRegisters (s .registers) w)
+stored s w = storedSatp (s .satp) (storedPmp (s .pmp) (storedRegisters (s .registers) w))

@@ -1,4 +1,4 @@
--- 01, "Saved text": the registers as words, in the order of its keys.
+-- 01, "Saved text": the registers as words, in the order of its keys; then satp, of 02, [8], which that text does not have.
 use Prim.Native.Nat.{ℕ}
 use mathlib.Core.List.{List, [], _∷_, _++_}
 use lib.ListN.{getD, take, drop}
@@ -42,8 +42,12 @@ registerWords r =
 abbrev pub pmpWords : Pmp → List ℕ
 pmpWords p = packed (take 8 (p .cfgs)) ∷ packed (drop 8 (p .cfgs)) ∷ elements entries 0 (p .addrs)
 
+-- the 41 words of the saved text
+abbrev pub textWords : State → List ℕ
+textWords s = registerWords (s .registers) ++ pmpWords (s .pmp)
+
 unfoldable pub wordsOf : State → List ℕ
-wordsOf s = registerWords (s .registers) ++ pmpWords (s .pmp)
+wordsOf s = textWords s ++ s .satp ∷ []
 
 -- ---- and back
 
@@ -78,4 +82,4 @@ abbrev pub pmpOf : List ℕ → Pmp
 pmpOf w = record { cfgs = configsOf (getD w 23 0) (getD w 24 0); addrs = elements entries 25 w }
 
 abbrev pub stateOf : List ℕ → State
-stateOf w = record { registers = registersOf w; pmp = pmpOf w }
+stateOf w = record { registers = registersOf w; pmp = pmpOf w; satp = getD w 41 0 }

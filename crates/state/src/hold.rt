@@ -11,13 +11,14 @@ ghost use Rattle.state.specs.Slices.{loaded};
 pub fn words_can_hold(words: &[u64]) -> bool
     ensures { λ r. ⌜ r ≡ canHold (loaded (now (words .entry))) ⌝ }
 {
-    if words.len() != 41 {
+    if words.len() != 42 {
         return true;
     }
     let registers = registers::registers_can_hold(registers_at(words));
     let configs = protection::configs_can_hold(words[places::PMPCFG0], words[places::PMPCFG2]);
-    let addresses = protection::addresses_can_hold(&words[places::PMPADDR0..41]);
-    registers & (configs & addresses)
+    let addresses = protection::addresses_can_hold(&words[places::PMPADDR0..places::SATP]);
+    let satp = paging::satp_can_hold(words[places::SATP]);
+    registers & ((configs & addresses) & satp)
 }
 
 // Whether a hart can hold this state.
@@ -33,5 +34,9 @@ pub fn reset() -> State
 {
     let registers = registers::reset_registers();
     let pmp = protection::reset();
-    State { registers, pmp }
+    State {
+        registers,
+        pmp,
+        satp: 0,
+    }
 }

@@ -1,4 +1,4 @@
-// Where each register lies among the 41 words.
+// Where each register lies among the 42 words.
 pub const MODE: usize = 0;
 
 pub const PC: usize = 1;
@@ -48,5 +48,7 @@ pub const MINSTRET: usize = 22;
 pub const PMPCFG0: usize = 23;
 
 pub const PMPCFG2: usize = 24;
-// pmpaddr15 lies in the last word.
+// The sixteen addresses lie in order.
 pub const PMPADDR0: usize = 25;
+
+pub const SATP: usize = 41;

@@ -1,4 +1,4 @@
-// The registers in the order of the saved text, in a slice that is read and written where it lies. A slice of another length holds no state: it reads
+// The registers in the order of the saved text and then satp, in a slice that is read and written where it lies. A slice of another length holds no state: it reads
 // as the reset state, and stays as it is.
 use crate::State;
 use crate::places;
@@ -11,10 +11,10 @@ ghost use mathlib.Core.Path.{_≡_};
 ghost use lib.ListN.{length};
 ghost use lib.Seq.{sets};
 ghost use Rattle.state.specs.Words.{registerWords, pmpWords, wordsOf, registersOf, pmpOf, stateOf};
-ghost use Rattle.state.specs.Slices.{loaded, loadedRegisters, loadedPmp, stored, storedRegisters, storedPmp};
+ghost use Rattle.state.specs.Slices.{loaded, loadedRegisters, loadedPmp, loadedSatp, stored, storedRegisters, storedPmp, storedSatp};
 
 pub(crate) fn registers_at(words: &[u64]) -> Registers
-    requires { ⌜ length (now words) ≡ 41 ⌝ }
+    requires { ⌜ length (now words) ≡ 42 ⌝ }
     ensures { λ r. ⌜ r ≡ registersOf (now (words .entry)) ⌝ }
 {
     let interrupts = Interrupts {
@@ -60,14 +60,14 @@ pub(crate) fn registers_at(words: &[u64]) -> Registers
 pub fn load_registers(words: &[u64]) -> Registers
     ensures { λ r. ⌜ r ≡ loadedRegisters (now (words .entry)) ⌝ }
 {
-    if words.len() != 41 {
+    if words.len() != 42 {
         return registers::reset_registers();
     }
     registers_at(words)
 }
 
 fn put_registers(registers: Registers, words: &mut [u64])
-    requires { ⌜ length (now words) ≡ 41 ⌝ }
+    requires { ⌜ length (now words) ≡ 42 ⌝ }
     ensures { λ _. ⌜ now (words .exit) ≡ sets (now (words .entry)) 0 (registerWords registers) ⌝ }
 {
     let interrupts = registers.interrupts;
@@ -103,7 +103,7 @@ fn put_registers(registers: Registers, words: &mut [u64])
 pub fn store_registers(registers: Registers, words: &mut [u64])
     ensures { λ _. ⌜ now (words .exit) ≡ storedRegisters registers (now (words .entry)) ⌝ }
 {
-    if words.len() != 41 {
+    if words.len() != 42 {
         return;
     }
     put_registers(registers, words);
@@ -111,7 +111,7 @@ pub fn store_registers(registers: Registers, words: &mut [u64])
 
 // The addresses are copied by a loop, here and below: it is compiled to one copy of 128 bytes, where sixteen reads stay sixteen loads and stores.
 fn pmp_at(words: &[u64]) -> Pmp
-    requires { ⌜ length (now words) ≡ 41 ⌝ }
+    requires { ⌜ length (now words) ≡ 42 ⌝ }
     ensures { λ r. ⌜ r ≡ pmpOf (now (words .entry)) ⌝ }
 {
     let mut addrs = [0u64; 16];
@@ -128,14 +128,14 @@ fn pmp_at(words: &[u64]) -> Pmp
 pub fn load_pmp(words: &[u64]) -> Pmp
     ensures { λ r. ⌜ r ≡ loadedPmp (now (words .entry)) ⌝ }
 {
-    if words.len() != 41 {
+    if words.len() != 42 {
         return protection::reset();
     }
     pmp_at(words)
 }
 
 fn put_pmp(pmp: Pmp, words: &mut [u64])
-    requires { ⌜ length (now words) ≡ 41 ⌝ }
+    requires { ⌜ length (now words) ≡ 42 ⌝ }
     ensures { λ _. ⌜ now (words .exit) ≡ sets (now (words .entry)) 23 (pmpWords pmp) ⌝ }
 {
     let cfgs = pmp.cfgs;
@@ -153,10 +153,28 @@ fn put_pmp(pmp: Pmp, words: &mut [u64])
 pub fn store_pmp(pmp: Pmp, words: &mut [u64])
     ensures { λ _. ⌜ now (words .exit) ≡ storedPmp pmp (now (words .entry)) ⌝ }
 {
-    if words.len() != 41 {
+    if words.len() != 42 {
         return;
     }
     put_pmp(pmp, words);
+}
+
+pub fn load_satp(words: &[u64]) -> u64
+    ensures { λ r. ⌜ r ≡ loadedSatp (now (words .entry)) ⌝ }
+{
+    if words.len() != 42 {
+        return 0;
+    }
+    words[places::SATP]
+}
+
+pub fn store_satp(satp: u64, words: &mut [u64])
+    ensures { λ _. ⌜ now (words .exit) ≡ storedSatp satp (now (words .entry)) ⌝ }
+{
+    if words.len() != 42 {
+        return;
+    }
+    words[places::SATP] = satp;
 }
 
 // All registers.
@@ -165,7 +183,12 @@ pub fn load(words: &[u64]) -> State
 {
     let registers = load_registers(words);
     let pmp = load_pmp(words);
-    State { registers, pmp }
+    let satp = load_satp(words);
+    State {
+        registers,
+        pmp,
+        satp,
+    }
 }
 
 // Writes all registers.
@@ -176,20 +199,21 @@ pub fn store(state: State, words: &mut [u64])
     let pmp = state.pmp;
     store_registers(registers, words);
     store_pmp(pmp, words);
+    store_satp(state.satp, words);
 }
 
-pub fn to_words(state: State) -> [u64; 41]
+pub fn to_words(state: State) -> [u64; 42]
     ensures { λ r. ⌜ r ≡ wordsOf state ⌝ }
     ensures { λ r. ⌜ stateOf r ≡ state ⌝ }
 {
     let pmp = state.pmp;
     protection::typed(pmp);
-    let mut words = [0u64; 41];
+    let mut words = [0u64; 42];
     store(state, &mut words);
     words
 }
 
-pub fn of_words(words: [u64; 41]) -> State
+pub fn of_words(words: [u64; 42]) -> State
     ensures { λ r. ⌜ r ≡ stateOf words ⌝ }
 {
     load(&words)

@@ -1,10 +1,12 @@
-// The mixes: sixteen steps over and over, in the fifth 8,192; and the steps that come before every mix.
+// The mixes: sixteen steps over and over, in the fifth 8,192, in the sixth 1,024; and the steps that come before them.
+use crate::translated::translated_setting;
+use crate::translated::translated_step;
 use pmp::Access;
 use steps::Event;
 use steps::Operation;
 use steps::Step;
 
-fn write(number: u64, operand: u64) -> Step {
+pub(crate) fn write(number: u64, operand: u64) -> Step {
     Step::Csr(Operation::Write, number, operand)
 }
 
@@ -20,20 +22,20 @@ fn read(number: u64) -> Step {
     Step::Csr(Operation::Read, number, 0)
 }
 
-fn fetch() -> Step {
+pub(crate) fn fetch() -> Step {
     Step::Access(Access::Fetch, 0, 0)
 }
 
-fn load(address: u64, size: u64) -> Step {
+pub(crate) fn load(address: u64, size: u64) -> Step {
     Step::Access(Access::Load, address, size)
 }
 
-fn store(address: u64, size: u64) -> Step {
+pub(crate) fn store(address: u64, size: u64) -> Step {
     Step::Access(Access::Store, address, size)
 }
 
 // From reset, 23 steps: sixteen entries of four readable bytes each, and traps and interrupts for both levels.
-pub(crate) fn setting(place: u64) -> Step {
+fn setting(place: u64) -> Step {
     match place {
         0..=15 => write(0x3B0 + place, 2 * place + 1),
         16 => write(0x3A0, 0x1111111111111111),
@@ -43,6 +45,19 @@ pub(crate) fn setting(place: u64) -> Step {
         20 => write(0x302, 0x100),
         21 => write(0x303, 0x222),
         _ => write(0x304, 0xAAA),
+    }
+}
+
+// How many steps come before a mix, and each of them.
+pub(crate) fn settings(mix: u64) -> u64 {
+    if mix == 6 { 11 } else { 23 }
+}
+
+pub(crate) fn setting_of(mix: u64, place: u64) -> Step {
+    if mix == 6 {
+        translated_setting(place)
+    } else {
+        setting(place)
     }
 }
 
@@ -186,6 +201,7 @@ pub(crate) fn step_of(mix: u64, place: u64) -> Step {
         2 => Step::Event(trap_event(place % 16)),
         3 => access_step(place % 16),
         4 => protection_step(place % 16),
+        6 => translated_step(place),
         _ => any_number_step(place),
     }
 }

@@ -8,6 +8,7 @@ use lib.ListN.{length, take, drop, length-drop}
 use lib.Seq.{take-append-le, drop-append-le}
 use Rattle.bits.specs.Fold.{fold, outputs}
 use Rattle.bits.proofs.FoldLaws.{fold-append, outputs-append}
+use Rattle.paging.specs.Memory.{Memory}
 use Rattle.trace.specs.declared.Replay.{Replay}
 use Rattle.trace.specs.Batches.{afterRecord, recordLine, recordsOf, afterRecords, recordLines}
 
@@ -22,9 +23,10 @@ module _ (b : ℕ) (u : List ℕ) where
       let n : length (drop 60 t) ≡ 60 * a = omega (arith, length-drop 60 t) in
       rw e ((λ j. take-append-le 60 t u l j ∷ recordsOf (a + b) (drop-append-le 60 t u l j)) ∙ ap (λ r. take 60 t ∷ r) (cut a (drop 60 t) n))
 
-  pub records-cut : (a : ℕ) (r : Replay) (t : List ℕ) → length t ≡ 60 * a → afterRecords (a + b) r (t ++ u) ≡ afterRecords b (afterRecords a r t) u
-  records-cut a r t h = ap (fold afterRecord r) (cut a t h) ∙ fold-append afterRecord r (recordsOf a t) (recordsOf b u)
+  module _ (m : Memory) where
+    pub records-cut : (a : ℕ) (r : Replay) (t : List ℕ) → length t ≡ 60 * a → afterRecords m (a + b) r (t ++ u) ≡ afterRecords m b (afterRecords m a r t) u
+    records-cut a r t h = ap (fold (afterRecord m) r) (cut a t h) ∙ fold-append (afterRecord m) r (recordsOf a t) (recordsOf b u)
 
-  pub lines-cut : (a : ℕ) (r : Replay) (t : List ℕ) → length t ≡ 60 * a
-      → recordLines (a + b) r (t ++ u) ≡ recordLines a r t ++ recordLines b (afterRecords a r t) u
-  lines-cut a r t h = ap (outputs afterRecord recordLine r) (cut a t h) ∙ outputs-append afterRecord recordLine r (recordsOf a t) (recordsOf b u)
+    pub lines-cut : (a : ℕ) (r : Replay) (t : List ℕ) → length t ≡ 60 * a
+        → recordLines m (a + b) r (t ++ u) ≡ recordLines m a r t ++ recordLines m b (afterRecords m a r t) u
+    lines-cut a r t h = ap (outputs (afterRecord m) (recordLine m) r) (cut a t h) ∙ outputs-append (afterRecord m) (recordLine m) r (recordsOf a t) (recordsOf b u)

@@ -9,6 +9,7 @@ use lib.ListN.{length}
 use borrow.Author.Tests.{lt-ltb, le-ltb, ne-eqb}
 use Rattle.bits.proofs.FoldLaws.{fold-nil, fold-cons, fold-append}
 use Rattle.lines.specs.Lines.{bytesOf}
+use Rattle.paging.specs.Memory.{Memory}
 use Rattle.trace.specs.declared.Replay.{Replay}
 use Rattle.trace.specs.declared.Session.{Session}
 use Rattle.trace.specs.declared.Fed.{Fed}
@@ -21,75 +22,76 @@ use Rattle.trace.proofs.Writing.{nothing-written, not-written, written,
 use Rattle.trace.proofs.Batching.{lines-length}
 use Rattle.trace.proofs.Endings.{ending-length}
 
--- ---- one piece
+module _ (m : Memory) where
+  -- ---- one piece
 
--- a session that has ended stays and gives out nothing
-pub piece-still : (s : Session) (p : List ℕ) → s .more ≡ false → (afterPiece s p ≡ s) × (pieceLines s p ≡ [])
-unfolding afterPiece pieceLines
-piece-still s p h = (rw h, rw h)
+  -- a session that has ended stays and gives out nothing
+  pub piece-still : (s : Session) (p : List ℕ) → s .more ≡ false → (afterPiece m s p ≡ s) × (pieceLines m s p ≡ [])
+  unfolding afterPiece pieceLines
+  piece-still s p h = (rw h, rw h)
 
-pub piece-goes : (s : Session) (p : List ℕ) → s .more ≡ true
-    → (afterPiece s p ≡ continued s (afterInput (s .replay) p) (length p)) × (pieceLines s p ≡ inputLines (s .replay) p)
-unfolding afterPiece pieceLines
-piece-goes s p h = (rw h, rw h)
+  pub piece-goes : (s : Session) (p : List ℕ) → s .more ≡ true
+      → (afterPiece m s p ≡ continued s (afterInput m (s .replay) p) (length p)) × (pieceLines m s p ≡ inputLines m (s .replay) p)
+  unfolding afterPiece pieceLines
+  piece-goes s p h = (rw h, rw h)
 
--- ---- no piece, and one piece more
+  -- ---- no piece, and one piece more
 
-pub pieces-none : (s : Session) → afterPieces s [] ≡ s
-pieces-none s = fold-nil afterPiece s
+  pub pieces-none : (s : Session) → afterPieces m s [] ≡ s
+  pieces-none s = fold-nil (afterPiece m) s
 
-pub pieces-more : (s : Session) (ps : List (List ℕ)) (p : List ℕ) → afterPieces s (ps ++ p ∷ []) ≡ afterPiece (afterPieces s ps) p
-pieces-more s ps p =
-    let here = afterPieces s ps in
-    fold-append afterPiece s ps (p ∷ []) ∙ fold-cons afterPiece here p [] ∙ fold-nil afterPiece (afterPiece here p)
+  pub pieces-more : (s : Session) (ps : List (List ℕ)) (p : List ℕ) → afterPieces m s (ps ++ p ∷ []) ≡ afterPiece m (afterPieces m s ps) p
+  pieces-more s ps p =
+      let here = afterPieces m s ps in
+      fold-append (afterPiece m) s ps (p ∷ []) ∙ fold-cons (afterPiece m) here p [] ∙ fold-nil (afterPiece m) (afterPiece m here p)
 
--- ---- feeding
+  -- ---- feeding
 
--- the three facts that a call of `feed` has to show
-abbrev pub Feeds : Session → List ℕ → List ℕ → List ℕ → Session → ℕ → Type 0
-Feeds s piece before after next filled =
-    (_≡_ {A = Fed} (record { session = next; filled = filled }) (fed s piece before))
-    × ((after ≡ writtenFront (pieceRoom piece) (pieceLines s piece) before) × (filled ≤ length before))
+  -- the three facts that a call of `feed` has to show
+  abbrev pub Feeds : Session → List ℕ → List ℕ → List ℕ → Session → ℕ → Type 0
+  Feeds s piece before after next filled =
+      (_≡_ {A = Fed} (record { session = next; filled = filled }) (fed m s piece before))
+      × ((after ≡ writtenFront (pieceRoom piece) (pieceLines m s piece) before) × (filled ≤ length before))
 
-module _ (s : Session) (piece before : List ℕ) where
-  pub feed-ended : s .more ≡ false → Feeds s piece before before s 0
-  unfolding fed
-  feed-ended h =
-      let room = pieceRoom piece in
-      let e = piece-still s piece h in
-      let n = nothing-written room before in (
-        (λ j. record { session = same (ltb (length before) room) j; filled = n .0 j })
-            ∙ (λ j. record { session = cond (ltb (length before) room) s (sym (e .0) j); filled = writtenLength room (sym (e .1) j) before }),
-        (n .1 .0 ∙ (λ j. writtenFront room (sym (e .1) j) before), n .1 .1),
-      )
-    where
-      same : (b : Bool) → s ≡ cond b s s
-      same true = refl
-      same false = refl
+  module _ (s : Session) (piece before : List ℕ) where
+    pub feed-ended : s .more ≡ false → Feeds s piece before before s 0
+    unfolding fed
+    feed-ended h =
+        let room = pieceRoom piece in
+        let e = piece-still s piece h in
+        let n = nothing-written room before in (
+          (λ j. record { session = same (ltb (length before) room) j; filled = n .0 j })
+              ∙ (λ j. record { session = cond (ltb (length before) room) s (sym (e .0) j); filled = writtenLength room (sym (e .1) j) before }),
+          (n .1 .0 ∙ (λ j. writtenFront room (sym (e .1) j) before), n .1 .1),
+        )
+      where
+        same : (b : Bool) → s ≡ cond b s s
+        same true = refl
+        same false = refl
 
-  pub feed-small : length before / 64 < length piece / 60 → Feeds s piece before before s 0
-  unfolding fed
-  feed-small h =
-      let l : length before < pieceRoom piece = omega arith in
-      rw (lt-ltb (length before) (pieceRoom piece) l) (refl, (refl, omega arith))
+    pub feed-small : length before / 64 < length piece / 60 → Feeds s piece before before s 0
+    unfolding fed
+    feed-small h =
+        let l : length before < pieceRoom piece = omega arith in
+        rw (lt-ltb (length before) (pieceRoom piece) l) (refl, (refl, omega arith))
 
-  pub feed-done : (r : Replay) (after : List ℕ) {left filled : ℕ} → s .more ≡ true → length piece / 60 ≤ length before / 64
-      → r ≡ afterInput (s .replay) piece → Put before 0 (inputLines (s .replay) piece) after filled → left ≡ leftOver (r .stopped) (length piece)
-      → Feeds s piece before after
-      (record { replay = r; left = left; more = eqb (length piece) fullPiece && not (r .stopped); refusal = s .refusal }) filled
-  unfolding fed
-  feed-done r after {left} {filled} h room e put l =
-      let size = pieceRoom piece in
-      let g = piece-goes s piece h in
-      let big : size ≤ length before = omega arith in
-      let w = written size (inputLines (s .replay) piece) before after filled big (lines-length (length piece / 60) (s .replay) piece) put in
-      let went : _≡_ {A = Session} (record { replay = r; left = left; more = eqb (length piece) fullPiece && not (r .stopped); refusal = s .refusal })
-      (afterPiece s piece) =
-      (λ j. record { replay = r; left = l j; more = eqb (length piece) fullPiece && not (r .stopped); refusal = s .refusal })
-      ∙ (λ j. continued s (e j) (length piece)) ∙ sym (g .0) in (
-        (λ j. record { session = cond (sym (le-ltb (length before) size big) j) s (went j); filled = (w .0 ∙ (λ k. writtenLength size (sym (g .1) k) before)) j }),
-        (w .1 .0 ∙ (λ j. writtenFront size (sym (g .1) j) before), w .1 .1),
-      )
+    pub feed-done : (r : Replay) (after : List ℕ) {left filled : ℕ} → s .more ≡ true → length piece / 60 ≤ length before / 64
+        → r ≡ afterInput m (s .replay) piece → Put before 0 (inputLines m (s .replay) piece) after filled → left ≡ leftOver (r .stopped) (length piece)
+        → Feeds s piece before after
+        (record { replay = r; left = left; more = eqb (length piece) fullPiece && not (r .stopped); refusal = s .refusal }) filled
+    unfolding fed
+    feed-done r after {left} {filled} h room e put l =
+        let size = pieceRoom piece in
+        let g = piece-goes s piece h in
+        let big : size ≤ length before = omega arith in
+        let w = written size (inputLines m (s .replay) piece) before after filled big (lines-length m (length piece / 60) (s .replay) piece) put in
+        let went : _≡_ {A = Session} (record { replay = r; left = left; more = eqb (length piece) fullPiece && not (r .stopped); refusal = s .refusal })
+        (afterPiece m s piece) =
+        (λ j. record { replay = r; left = l j; more = eqb (length piece) fullPiece && not (r .stopped); refusal = s .refusal })
+        ∙ (λ j. continued s (e j) (length piece)) ∙ sym (g .0) in (
+          (λ j. record { session = cond (sym (le-ltb (length before) size big) j) s (went j); filled = (w .0 ∙ (λ k. writtenLength size (sym (g .1) k) before)) j }),
+          (w .1 .0 ∙ (λ j. writtenFront size (sym (g .1) j) before), w .1 .1),
+        )
 
 -- ---- finishing
 

@@ -11,6 +11,7 @@ use Rattle.bits.specs.Fold.{fold, outputs}
 use Rattle.bits.proofs.FoldLaws.{fold-append, outputs-append}
 use Rattle.steps.specs.Number.{refusalOf}
 use Rattle.steps.specs.declared.Answer.the-variants.{Done, Refused}
+use Rattle.paging.specs.Memory.{Memory}
 use Rattle.map.specs.declared.Map.{Map}
 use Rattle.hart.specs.declared.Hart.{Hart}
 use Rattle.hart.specs.Steps.{resetMapped, handedBack}
@@ -25,55 +26,7 @@ use Rattle.trace.proofs.Batching.{stopped-still}
 use Rattle.trace.proofs.Cutting.{records-cut, lines-cut}
 use Rattle.trace.proofs.Sessions.{piece-still, piece-goes}
 
--- ---- a session that has ended
-
-module _ (s : Session) (h : s .more ≡ false) where
-  pub pieces-still : (ps : List (List ℕ)) → (afterPieces s ps ≡ s) × (piecesLines s ps ≡ [])
-  unfolding fold outputs
-  pieces-still [] = (refl, refl)
-  pieces-still (p ∷ ps) =
-      let e = piece-still s p h in
-      let r = pieces-still ps in
-      ((λ j. afterPieces (e .0 j) ps) ∙ r .0, (λ j. e .1 j ++ piecesLines (e .0 j) ps) ∙ r .1)
-
-  ended-writes : (ps : List (List ℕ)) → allWritten s ps ≡ sessionEnding s
-  ended-writes ps = let e = pieces-still ps in λ j. e .1 j ++ sessionEnding (e .0 j)
-
-written-append : (s : Session) (ps qs : List (List ℕ)) → allWritten s (ps ++ qs) ≡ piecesLines s ps ++ allWritten (afterPieces s ps) qs
-written-append s ps qs =
-    (λ j. outputs-append afterPiece pieceLines s ps qs j ++ sessionEnding (fold-append afterPiece s ps qs j))
-    ∙ append-assoc (piecesLines s ps) (piecesLines (afterPieces s ps) qs) (sessionEnding (afterPieces (afterPieces s ps) qs))
-
-written-cons : (s : Session) (p : List ℕ) (ps : List (List ℕ)) → allWritten s (p ∷ ps) ≡ pieceLines s p ++ allWritten (afterPiece s p) ps
-unfolding fold outputs
-written-cons s p ps = append-assoc (pieceLines s p) (piecesLines (afterPiece s p) ps) (sessionEnding (afterPieces (afterPiece s p) ps))
-
--- ---- a trace with a full piece in front
-
-module _ (r : Replay) (p rest : List ℕ) (h : length p ≡ fullPiece) where
-  front-count : length (p ++ rest) / 60 ≡ length p / 60 + length rest / 60
-  front-count = omega (arith, length-append p rest)
-
-  front-records : length p ≡ 60 * (length p / 60)
-  front-records = omega arith
-
-  replayed-front : replayed r (p ++ rest) ≡ inputLines r p ++ replayed (afterInput r p) rest
-  replayed-front =
-      let there = afterInput r p in
-      let after : afterInput r (p ++ rest) ≡ afterInput there rest =
-      ap (λ (n : ℕ). afterRecords n r (p ++ rest)) front-count ∙ records-cut (length rest / 60) rest (length p / 60) r p front-records in
-      let lines : inputLines r (p ++ rest) ≡ inputLines r p ++ inputLines there rest =
-      ap (λ (n : ℕ). recordLines n r (p ++ rest)) front-count ∙ lines-cut (length rest / 60) rest (length p / 60) r p front-records in
-      let left : length (p ++ rest) % 60 ≡ length rest % 60 = omega (arith, length-append p rest) in
-      (λ j. lines j ++ ending (after j) (cond (after j .stopped) 0 (left j)))
-      ∙ append-assoc (inputLines r p) (inputLines there rest) (ending (afterInput there rest) (leftOver (afterInput there rest .stopped) (length rest)))
-
-replayed-stopped : (r : Replay) (t : List ℕ) → r .stopped ≡ true → replayed r t ≡ ending r 0
-replayed-stopped r t h =
-    let s = stopped-still r h (recordsOf (length t / 60) t) in
-    (λ j. s .1 j ++ ending (s .0 j) (leftOver (s .0 j .stopped) (length t))) ∙ rw h
-
--- ---- the claim
+-- ---- what a session writes at its end
 
 ending-written : (s : Session) → s .more ≡ false → s .refusal ≡ 0 → sessionEnding s ≡ ending (s .replay) (s .left)
 unfolding sessionEnding
@@ -86,55 +39,6 @@ refusal-written s h e = rw (h, ne-eqb (s .refusal) 0 e)
 none-written : (s : Session) → s .more ≡ true → sessionEnding s ≡ []
 unfolding sessionEnding
 none-written s h = rw h
-
-whole : (s : Session) (full : List (List ℕ)) (last : List ℕ) → s .more ≡ true → s .refusal ≡ 0 → AllFull full → length last < fullPiece
-    → allWritten s (full ++ last ∷ []) ≡ replayed (s .replay) (joined full last)
-whole s [] last h z f l =
-    let next = continued s (afterInput (s .replay) last) (length last) in
-    let g = piece-goes s last h in
-    let short : length last ≡ fullPiece → ⊥ = λ e. omega arith in
-    let m : next .more ≡ false = rw (ne-eqb (length last) fullPiece short) in
-    written-cons s last [] ∙ (λ j. g .1 j ++ allWritten (g .0 j) [])
-    ∙ ap (λ (t : List ℕ). inputLines (s .replay) last ++ t) (ended-writes next m [] ∙ ending-written next m z)
-whole s (p ∷ full) last h z f l =
-    let g = piece-goes s p h in
-    written-cons s p (full ++ last ∷ []) ∙ (λ j. g .1 j ++ allWritten (g .0 j) (full ++ last ∷ []))
-    ∙ ap (λ (t : List ℕ). inputLines (s .replay) p ++ t) (go (next .replay .stopped) refl (λ m. whole next full last m z (f .1) l))
-    ∙ sym (replayed-front (s .replay) p (joined full last) (f .0))
-  where
-    next : Session
-    next = continued s (afterInput (s .replay) p) (length p)
-
-    Rest : Type 0
-    Rest = allWritten next (full ++ last ∷ []) ≡ replayed (next .replay) (joined full last)
-
-    go : (b : Bool) → next .replay .stopped ≡ b → (next .more ≡ true → Rest) → Rest
-    go true q rest =
-        let m : next .more ≡ false = λ j. eqb (f .0 j) fullPiece && not (q j) in
-        ended-writes next m (full ++ last ∷ []) ∙ ending-written next m z
-        ∙ ap (λ (b : Bool). ending (next .replay) (leftOver b (length p))) q
-        ∙ sym (replayed-stopped (next .replay) (joined full last) q)
-    go false q rest = rest (λ j. eqb (f .0 j) fullPiece && not (q j))
-
--- ---- one piece
-
-module _ (s : Session) (p : List ℕ) (h : s .more ≡ true) where
-  went : afterPiece s p ≡ continued s (afterInput (s .replay) p) (length p)
-  went = piece-goes s p h .0
-
-  goes-more : (b : Bool) → afterPiece s p .replay .stopped ≡ b → afterPiece s p .more ≡ (eqb (length p) fullPiece && not b)
-  goes-more b q =
-      ap (λ (t : Session). t .more) went
-      ∙ ap (λ (c : Bool). eqb (length p) fullPiece && not c) (sym (ap (λ (t : Session). t .replay .stopped) went) ∙ q)
-
-  broken : afterPiece s p .replay .stopped ≡ true → afterPiece s p .more ≡ false
-  broken q = goes-more true q ∙ and-false (eqb (length p) fullPiece)
-
-  unbroken : afterPiece s p .replay .stopped ≡ false → length p ≡ 61440 → afterPiece s p .more ≡ true
-  unbroken q e = goes-more false q ∙ (λ j. eqb (e j) fullPiece && true)
-
-  last-piece : (length p ≡ 61440 → ⊥) → afterPiece s p .more ≡ false
-  last-piece e = ap (λ (t : Session). t .more) went ∙ (λ j. ne-eqb (length p) fullPiece e j && not (afterInput (s .replay) p .stopped))
 
 -- ---- the starts
 
@@ -155,35 +59,137 @@ refused-text text n e z = (
   ap (λ (t : Session). t .refusal) (text-read text) ∙ (λ j. refusalOf (e j)),
 )
 
-begun-whole : (s : Session) (h : Hart) (map : Map) (full : List (List ℕ)) (last : List ℕ) → s ≡ begun h map → AllFull full → length last < fullPiece
-    → allWritten s (full ++ last ∷ []) ≡ replayed (unread h map) (joined full last)
-begun-whole s h map full last e f l = (λ j. allWritten (e j) (full ++ last ∷ [])) ∙ whole (begun h map) full last refl refl f l
+module _ (m : Memory) where
+  -- ---- a session that has ended
 
-refused-writes : (s : Session) (pieces : List (List ℕ)) → s .more ≡ false → (s .refusal ≡ 0 → ⊥) → allWritten s pieces ≡ refusedLine (s .refusal)
-refused-writes s ps h e = ended-writes s h ps ∙ refusal-written s h e
+  module _ (s : Session) (h : s .more ≡ false) where
+    pub pieces-still : (ps : List (List ℕ)) → (afterPieces m s ps ≡ s) × (piecesLines m s ps ≡ [])
+    unfolding fold outputs
+    pieces-still [] = (refl, refl)
+    pieces-still (p ∷ ps) =
+        let e = piece-still m s p h in
+        let r = pieces-still ps in
+        ((λ j. afterPieces m (e .0 j) ps) ∙ r .0, (λ j. e .1 j ++ piecesLines m (e .0 j) ps) ∙ r .1)
 
-text-refused : (text : List ℕ) (n : ℕ) (pieces : List (List ℕ)) → fromText text .answer ≡ Refused n → (n ≡ 0 → ⊥)
-    → allWritten (textSession text) pieces ≡ refusedLine n
-text-refused text n ps e z =
-    let r = refused-text text n e z in
-    refused-writes (textSession text) ps (r .0) (λ q. z (sym (r .1) ∙ q)) ∙ ap refusedLine (r .1)
+    ended-writes : (ps : List (List ℕ)) → allWritten m s ps ≡ sessionEnding s
+    ended-writes ps = let e = pieces-still ps in λ j. e .1 j ++ sessionEnding (e .0 j)
 
-pub in-pieces : InPieces
-in-pieces = record {
-  whole = whole;
-  ended = λ s ps qs h.
-      written-append s ps qs ∙ ap (λ (l : List ℕ). piecesLines s ps ++ l) (ended-writes (afterPieces s ps) h qs);
-  unended = λ s ps h. none-written (afterPieces s ps) h;
-  refused = refused-writes;
-  read = λ s p h. ap (λ (t : Session). t .replay) (went s p h);
-  broken = broken;
-  unbroken = unbroken;
-  last = last-piece;
-  stays = λ s p h. piece-still s p h .0;
-  from-reset = from-reset;
-  from-text = from-text;
-  refused-text = refused-text;
-  reset-whole = λ full last. begun-whole resetSession (resetMapped .hart) (resetMapped .map) full last from-reset;
-  text-whole = λ text h map full last e. begun-whole (textSession text) h map full last (from-text text h map e);
-  text-refused = text-refused;
-}
+  written-append : (s : Session) (ps qs : List (List ℕ)) → allWritten m s (ps ++ qs) ≡ piecesLines m s ps ++ allWritten m (afterPieces m s ps) qs
+  written-append s ps qs =
+      (λ j. outputs-append (afterPiece m) (pieceLines m) s ps qs j ++ sessionEnding (fold-append (afterPiece m) s ps qs j))
+      ∙ append-assoc (piecesLines m s ps) (piecesLines m (afterPieces m s ps) qs) (sessionEnding (afterPieces m (afterPieces m s ps) qs))
+
+  written-cons : (s : Session) (p : List ℕ) (ps : List (List ℕ)) → allWritten m s (p ∷ ps) ≡ pieceLines m s p ++ allWritten m (afterPiece m s p) ps
+  unfolding fold outputs
+  written-cons s p ps = append-assoc (pieceLines m s p) (piecesLines m (afterPiece m s p) ps) (sessionEnding (afterPieces m (afterPiece m s p) ps))
+
+  -- ---- a trace with a full piece in front
+
+  module _ (r : Replay) (p rest : List ℕ) (h : length p ≡ fullPiece) where
+    front-count : length (p ++ rest) / 60 ≡ length p / 60 + length rest / 60
+    front-count = omega (arith, length-append p rest)
+
+    front-records : length p ≡ 60 * (length p / 60)
+    front-records = omega arith
+
+    replayed-front : replayed m r (p ++ rest) ≡ inputLines m r p ++ replayed m (afterInput m r p) rest
+    replayed-front =
+        let there = afterInput m r p in
+        let after : afterInput m r (p ++ rest) ≡ afterInput m there rest =
+        ap (λ (n : ℕ). afterRecords m n r (p ++ rest)) front-count ∙ records-cut (length rest / 60) rest m (length p / 60) r p front-records in
+        let lines : inputLines m r (p ++ rest) ≡ inputLines m r p ++ inputLines m there rest =
+        ap (λ (n : ℕ). recordLines m n r (p ++ rest)) front-count ∙ lines-cut (length rest / 60) rest m (length p / 60) r p front-records in
+        let left : length (p ++ rest) % 60 ≡ length rest % 60 = omega (arith, length-append p rest) in
+        (λ j. lines j ++ ending (after j) (cond (after j .stopped) 0 (left j)))
+        ∙ append-assoc (inputLines m r p) (inputLines m there rest) (ending (afterInput m there rest) (leftOver (afterInput m there rest .stopped) (length rest)))
+
+  replayed-stopped : (r : Replay) (t : List ℕ) → r .stopped ≡ true → replayed m r t ≡ ending r 0
+  replayed-stopped r t h =
+      let s = stopped-still m r h (recordsOf (length t / 60) t) in
+      (λ j. s .1 j ++ ending (s .0 j) (leftOver (s .0 j .stopped) (length t))) ∙ rw h
+
+  -- ---- the claim
+
+  whole : (s : Session) (full : List (List ℕ)) (last : List ℕ) → s .more ≡ true → s .refusal ≡ 0 → AllFull full → length last < fullPiece
+      → allWritten m s (full ++ last ∷ []) ≡ replayed m (s .replay) (joined full last)
+  whole s [] last h z f l =
+      let next = continued s (afterInput m (s .replay) last) (length last) in
+      let g = piece-goes m s last h in
+      let short : length last ≡ fullPiece → ⊥ = λ e. omega arith in
+      let over : next .more ≡ false = rw (ne-eqb (length last) fullPiece short) in
+      written-cons s last [] ∙ (λ j. g .1 j ++ allWritten m (g .0 j) [])
+      ∙ ap (λ (t : List ℕ). inputLines m (s .replay) last ++ t) (ended-writes next over [] ∙ ending-written next over z)
+  whole s (p ∷ full) last h z f l =
+      let g = piece-goes m s p h in
+      written-cons s p (full ++ last ∷ []) ∙ (λ j. g .1 j ++ allWritten m (g .0 j) (full ++ last ∷ []))
+      ∙ ap (λ (t : List ℕ). inputLines m (s .replay) p ++ t) (go (next .replay .stopped) refl (λ more. whole next full last more z (f .1) l))
+      ∙ sym (replayed-front (s .replay) p (joined full last) (f .0))
+    where
+      next : Session
+      next = continued s (afterInput m (s .replay) p) (length p)
+
+      Rest : Type 0
+      Rest = allWritten m next (full ++ last ∷ []) ≡ replayed m (next .replay) (joined full last)
+
+      go : (b : Bool) → next .replay .stopped ≡ b → (next .more ≡ true → Rest) → Rest
+      go true q rest =
+          let over : next .more ≡ false = λ j. eqb (f .0 j) fullPiece && not (q j) in
+          ended-writes next over (full ++ last ∷ []) ∙ ending-written next over z
+          ∙ ap (λ (b : Bool). ending (next .replay) (leftOver b (length p))) q
+          ∙ sym (replayed-stopped (next .replay) (joined full last) q)
+      go false q rest = rest (λ j. eqb (f .0 j) fullPiece && not (q j))
+
+  -- ---- one piece
+
+  module _ (s : Session) (p : List ℕ) (h : s .more ≡ true) where
+    went : afterPiece m s p ≡ continued s (afterInput m (s .replay) p) (length p)
+    went = piece-goes m s p h .0
+
+    goes-more : (b : Bool) → afterPiece m s p .replay .stopped ≡ b → afterPiece m s p .more ≡ (eqb (length p) fullPiece && not b)
+    goes-more b q =
+        ap (λ (t : Session). t .more) went
+        ∙ ap (λ (c : Bool). eqb (length p) fullPiece && not c) (sym (ap (λ (t : Session). t .replay .stopped) went) ∙ q)
+
+    broken : afterPiece m s p .replay .stopped ≡ true → afterPiece m s p .more ≡ false
+    broken q = goes-more true q ∙ and-false (eqb (length p) fullPiece)
+
+    unbroken : afterPiece m s p .replay .stopped ≡ false → length p ≡ 61440 → afterPiece m s p .more ≡ true
+    unbroken q e = goes-more false q ∙ (λ j. eqb (e j) fullPiece && true)
+
+    last-piece : (length p ≡ 61440 → ⊥) → afterPiece m s p .more ≡ false
+    last-piece e = ap (λ (t : Session). t .more) went ∙ (λ j. ne-eqb (length p) fullPiece e j && not (afterInput m (s .replay) p .stopped))
+
+  -- ---- from the starts
+
+  begun-whole : (s : Session) (h : Hart) (map : Map) (full : List (List ℕ)) (last : List ℕ) → s ≡ begun h map → AllFull full → length last < fullPiece
+      → allWritten m s (full ++ last ∷ []) ≡ replayed m (unread h map) (joined full last)
+  begun-whole s h map full last e f l = (λ j. allWritten m (e j) (full ++ last ∷ [])) ∙ whole (begun h map) full last refl refl f l
+
+  refused-writes : (s : Session) (pieces : List (List ℕ)) → s .more ≡ false → (s .refusal ≡ 0 → ⊥) → allWritten m s pieces ≡ refusedLine (s .refusal)
+  refused-writes s ps h e = ended-writes s h ps ∙ refusal-written s h e
+
+  text-refused : (text : List ℕ) (n : ℕ) (pieces : List (List ℕ)) → fromText text .answer ≡ Refused n → (n ≡ 0 → ⊥)
+      → allWritten m (textSession text) pieces ≡ refusedLine n
+  text-refused text n ps e z =
+      let r = refused-text text n e z in
+      refused-writes (textSession text) ps (r .0) (λ q. z (sym (r .1) ∙ q)) ∙ ap refusedLine (r .1)
+
+  pub in-pieces : InPieces m
+  in-pieces = record {
+    whole = whole;
+    ended = λ s ps qs h.
+        written-append s ps qs ∙ ap (λ (l : List ℕ). piecesLines m s ps ++ l) (ended-writes (afterPieces m s ps) h qs);
+    unended = λ s ps h. none-written (afterPieces m s ps) h;
+    refused = refused-writes;
+    read = λ s p h. ap (λ (t : Session). t .replay) (went s p h);
+    broken = broken;
+    unbroken = unbroken;
+    last = last-piece;
+    stays = λ s p h. piece-still m s p h .0;
+    from-reset = from-reset;
+    from-text = from-text;
+    refused-text = refused-text;
+    reset-whole = λ full last. begun-whole resetSession (resetMapped .hart) (resetMapped .map) full last from-reset;
+    text-whole = λ text h map full last e. begun-whole (textSession text) h map full last (from-text text h map e);
+    text-refused = text-refused;
+  }

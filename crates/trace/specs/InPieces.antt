@@ -1,10 +1,12 @@
--- A claim over whole traces: full pieces and a shorter last one write what the trace at once gives, from either start.
+-- A claim over whole traces: full pieces and a shorter last one write what the trace at once gives, from either start, with the same memory lent at each
+-- record (02, [8]).
 use Prim.Native.Nat.{ℕ, _%_, _<_}
 use mathlib.Core.Path.{_≡_}
 use mathlib.Core.Bool.{true, false, cond}
 use mathlib.Core.List.{List, [], _∷_, _++_}
 use lib.ListN.{length}
 use Rattle.steps.specs.declared.Answer.the-variants.{Done, Refused}
+use Rattle.paging.specs.Memory.{Memory}
 use Rattle.map.specs.declared.Map.{Map}
 use Rattle.hart.specs.declared.Hart.{Hart}
 use Rattle.hart.specs.declared.Stepped.{Stepped}
@@ -18,8 +20,8 @@ use Rattle.trace.specs.Endings.{ending}
 use Rattle.trace.specs.Sessions.{resetSession, textSession, afterPiece, sessionEnding, afterPieces, allWritten}
 
 -- a trace at once: the lines of its whole records, and the ending with the count of the bytes left over, 0 after a broken record
-abbrev pub replayed : Replay → List ℕ → List ℕ
-replayed r trace = inputLines r trace ++ ending (afterInput r trace) (cond (afterInput r trace .stopped) 0 (length trace % 60))
+abbrev pub replayed : Memory → Replay → List ℕ → List ℕ
+replayed m r trace = inputLines m r trace ++ ending (afterInput m r trace) (cond (afterInput m r trace .stopped) 0 (length trace % 60))
 
 -- full pieces and what comes behind them, joined
 abbrev pub joined : List (List ℕ) → List ℕ → List ℕ
@@ -41,28 +43,28 @@ begun h map = record { replay = unread h map; left = 0; more = true; refusal = 0
 abbrev pub fromText : List ℕ → Stepped
 fromText text = restored (resetMapped .hart) (resetMapped .map) text
 
-pub record InPieces : Type 0 where
+pub record InPieces (m : Memory) : Type 0 where
   -- full pieces and a shorter last one, from any session that has not ended
   pub whole : (start : Session) (full : List (List ℕ)) (last : List ℕ) → start .more ≡ true → start .refusal ≡ 0 → AllFull full → length last < 61440
-      → allWritten start (full ++ last ∷ []) ≡ replayed (start .replay) (joined full last)
+      → allWritten m start (full ++ last ∷ []) ≡ replayed m (start .replay) (joined full last)
   -- after the end further pieces write nothing
-  pub ended : (start : Session) (pieces rest : List (List ℕ)) → afterPieces start pieces .more ≡ false → allWritten start (pieces ++ rest) ≡ allWritten start pieces
+  pub ended : (start : Session) (pieces rest : List (List ℕ)) → afterPieces m start pieces .more ≡ false → allWritten m start (pieces ++ rest) ≡ allWritten m start pieces
   -- before it there is no ending
-  pub unended : (start : Session) (pieces : List (List ℕ)) → afterPieces start pieces .more ≡ true → sessionEnding (afterPieces start pieces) ≡ []
+  pub unended : (start : Session) (pieces : List (List ℕ)) → afterPieces m start pieces .more ≡ true → sessionEnding (afterPieces m start pieces) ≡ []
   -- a refused text's line is all that is written
   pub refused : (start : Session) (pieces : List (List ℕ)) → start .more ≡ false → (start .refusal ≡ 0 → ⊥)
-      → allWritten start pieces ≡ refusedLine (start .refusal)
+      → allWritten m start pieces ≡ refusedLine (start .refusal)
   -- a piece leaves what its whole records leave
-  pub read : (s : Session) (piece : List ℕ) → s .more ≡ true → afterPiece s piece .replay ≡ afterInput (s .replay) piece
+  pub read : (s : Session) (piece : List ℕ) → s .more ≡ true → afterPiece m s piece .replay ≡ afterInput m (s .replay) piece
   -- after a broken record no more is read
-  pub broken : (s : Session) (piece : List ℕ) → s .more ≡ true → afterPiece s piece .replay .stopped ≡ true → afterPiece s piece .more ≡ false
+  pub broken : (s : Session) (piece : List ℕ) → s .more ≡ true → afterPiece m s piece .replay .stopped ≡ true → afterPiece m s piece .more ≡ false
   -- a full piece without one goes on
-  pub unbroken : (s : Session) (piece : List ℕ) → s .more ≡ true → afterPiece s piece .replay .stopped ≡ false → length piece ≡ 61440
-      → afterPiece s piece .more ≡ true
+  pub unbroken : (s : Session) (piece : List ℕ) → s .more ≡ true → afterPiece m s piece .replay .stopped ≡ false → length piece ≡ 61440
+      → afterPiece m s piece .more ≡ true
   -- a piece of any other length, as a shorter one, is the last
-  pub last : (s : Session) (piece : List ℕ) → s .more ≡ true → (length piece ≡ 61440 → ⊥) → afterPiece s piece .more ≡ false
+  pub last : (s : Session) (piece : List ℕ) → s .more ≡ true → (length piece ≡ 61440 → ⊥) → afterPiece m s piece .more ≡ false
   -- a session that has ended stays as it is
-  pub stays : (s : Session) (piece : List ℕ) → s .more ≡ false → afterPiece s piece ≡ s
+  pub stays : (s : Session) (piece : List ℕ) → s .more ≡ false → afterPiece m s piece ≡ s
   -- the one start is the reset state with its map, and nothing read
   pub from-reset : resetSession ≡ begun (resetMapped .hart) (resetMapped .map)
   -- the other is the hart and map of a text that is taken, and nothing read
@@ -72,10 +74,10 @@ pub record InPieces : Type 0 where
       → (textSession text .more ≡ false) × (textSession text .refusal ≡ n)
   -- so a trace from reset writes what it gives at once from the reset state
   pub reset-whole : (full : List (List ℕ)) (last : List ℕ) → AllFull full → length last < 61440
-      → allWritten resetSession (full ++ last ∷ []) ≡ replayed (unread (resetMapped .hart) (resetMapped .map)) (joined full last)
+      → allWritten m resetSession (full ++ last ∷ []) ≡ replayed m (unread (resetMapped .hart) (resetMapped .map)) (joined full last)
   -- and one from a text that is taken, what it gives at once from the text's state
   pub text-whole : (text : List ℕ) (h : Hart) (map : Map) (full : List (List ℕ)) (last : List ℕ) → fromText text ≡ handedBack h map Done → AllFull full
-      → length last < 61440 → allWritten (textSession text) (full ++ last ∷ []) ≡ replayed (unread h map) (joined full last)
+      → length last < 61440 → allWritten m (textSession text) (full ++ last ∷ []) ≡ replayed m (unread h map) (joined full last)
   -- while behind a refused text, whatever comes, the refusal's line is all
   pub text-refused : (text : List ℕ) (n : ℕ) (pieces : List (List ℕ)) → fromText text .answer ≡ Refused n → (n ≡ 0 → ⊥)
-      → allWritten (textSession text) pieces ≡ refusedLine n
+      → allWritten m (textSession text) pieces ≡ refusedLine n

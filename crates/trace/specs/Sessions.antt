@@ -6,6 +6,7 @@ use lib.Dec.{eqb, ltb}
 use lib.ListN.{length}
 use Rattle.bits.specs.Fold.{fold, outputs}
 use Rattle.steps.specs.Number.{refusalOf}
+use Rattle.paging.specs.Memory.{Memory}
 use Rattle.map.specs.declared.Map.{Map}
 use Rattle.hart.specs.declared.Hart.{Hart}
 use Rattle.hart.specs.declared.Stepped.{Stepped}
@@ -51,34 +52,36 @@ continued s r came = record {
   refusal = s .refusal;
 }
 
--- what a piece leaves, and its lines; a session that has ended stays and gives out nothing
-unfoldable pub afterPiece : Session → List ℕ → Session
-afterPiece s piece = cond (s .more) (continued s (afterInput (s .replay) piece) (length piece)) s
-
-unfoldable pub pieceLines : Session → List ℕ → List ℕ
-pieceLines s piece = cond (s .more) (inputLines (s .replay) piece) []
-
 -- 64 bytes for the line of each whole record
 abbrev pub pieceRoom : List ℕ → ℕ
 pieceRoom piece = 64 * (length piece / 60)
-
--- feeding a piece; with a smaller buffer nothing is done
-unfoldable pub fed : Session → List ℕ → List ℕ → Fed
-fed s piece buffer = record {
-  session = cond (ltb (length buffer) (pieceRoom piece)) s (afterPiece s piece);
-  filled = writtenLength (pieceRoom piece) (pieceLines s piece) buffer;
-}
 
 -- the ending, or the line of the refusal alone; nothing where there may be more input
 unfoldable pub sessionEnding : Session → List ℕ
 sessionEnding s = cond (s .more) [] (cond (eqb (s .refusal) 0) (ending (s .replay) (s .left)) (refusedLine (s .refusal)))
 
--- the pieces in order: what they leave, and all that is written for them
-abbrev pub afterPieces : Session → List (List ℕ) → Session
-afterPieces s pieces = fold afterPiece s pieces
+-- every record of every piece is lent the same memory (02, [8])
+module _ (m : Memory) where
+  -- what a piece leaves, and its lines; a session that has ended stays and gives out nothing
+  unfoldable pub afterPiece : Session → List ℕ → Session
+  afterPiece s piece = cond (s .more) (continued s (afterInput m (s .replay) piece) (length piece)) s
 
-abbrev pub piecesLines : Session → List (List ℕ) → List ℕ
-piecesLines s pieces = outputs afterPiece pieceLines s pieces
+  unfoldable pub pieceLines : Session → List ℕ → List ℕ
+  pieceLines s piece = cond (s .more) (inputLines m (s .replay) piece) []
 
-abbrev pub allWritten : Session → List (List ℕ) → List ℕ
-allWritten s pieces = piecesLines s pieces ++ sessionEnding (afterPieces s pieces)
+  -- feeding a piece; with a smaller buffer nothing is done
+  unfoldable pub fed : Session → List ℕ → List ℕ → Fed
+  fed s piece buffer = record {
+    session = cond (ltb (length buffer) (pieceRoom piece)) s (afterPiece s piece);
+    filled = writtenLength (pieceRoom piece) (pieceLines s piece) buffer;
+  }
+
+  -- the pieces in order: what they leave, and all that is written for them
+  abbrev pub afterPieces : Session → List (List ℕ) → Session
+  afterPieces s pieces = fold afterPiece s pieces
+
+  abbrev pub piecesLines : Session → List (List ℕ) → List ℕ
+  piecesLines s pieces = outputs afterPiece pieceLines s pieces
+
+  abbrev pub allWritten : Session → List (List ℕ) → List ℕ
+  allWritten s pieces = piecesLines s pieces ++ sessionEnding (afterPieces s pieces)

@@ -8,12 +8,13 @@ use steps::Decoded;
 ghost use mathlib.Core.Path.{_≡_};
 ghost use Prim.Native.Nat.{_/_, _≤_};
 ghost use lib.ListN.{length};
+ghost use Rattle.paging.specs.Memory.{memoryAt};
 ghost use Rattle.state.specs.Words.{stateOf};
 ghost use Rattle.trace.specs.Buffers.{Put};
 ghost use Rattle.trace.specs.Batches.{carried, afterInput, inputLines};
 
 // The replay that a batch leaves. Its map is compiled here, once, where a step asked for it.
-fn handed_back(words: [u64; 41], remap: bool, map: Map, number: u64, stopped: bool) -> Replay
+fn handed_back(words: [u64; 42], remap: bool, map: Map, number: u64, stopped: bool) -> Replay
     ensures { λ r. ⌜ r ≡ carried (stateOf words) remap map number stopped ⌝ }
 {
     let state = state::of_words(words);
@@ -32,11 +33,17 @@ fn handed_back(words: [u64; 41], remap: bool, map: Map, number: u64, stopped: bo
 }
 
 // Steps through the whole records of the input and writes their lines to the front of the buffer, which has 64 bytes for each.
-// The steps are taken on the words of the hart, and no map is read.
-pub(crate) fn batch(input: &[u8], out: &mut [u8], start: Replay) -> Written
+// The steps are taken on the words of the hart, each with the memory lent to it, and no map is read.
+pub(crate) fn batch(
+    memory: &[u64],
+    base: u64,
+    input: &[u8],
+    out: &mut [u8],
+    start: Replay,
+) -> Written
     requires { ⌜ length (now input) / 60 ≤ length (now out) / 64 ⌝ }
-    ensures { λ r. ⌜ r .replay ≡ afterInput start (now (input .entry)) ⌝ }
-    ensures { λ r. ⌜ Put (now (out .entry)) 0 (inputLines start (now (input .entry))) (now (out .exit)) (r .filled) ⌝ }
+    ensures { λ r. ⌜ r .replay ≡ afterInput (memoryAt (now (memory .entry)) base) start (now (input .entry)) ⌝ }
+    ensures { λ r. ⌜ Put (now (out .entry)) 0 (inputLines (memoryAt (now (memory .entry)) base) start (now (input .entry))) (now (out .exit)) (r .filled) ⌝ }
 {
     if start.stopped {
         return Written {
@@ -62,7 +69,7 @@ pub(crate) fn batch(input: &[u8], out: &mut [u8], start: Replay) -> Written
             let replay = handed_back(words, remap, map, number, true);
             return Written { replay, filled };
         };
-        let next = engine::step(&mut words, held, step);
+        let next = engine::step(&mut words, memory, base, held, step);
         let answer = next.answer;
         let accessed = steps::is_access(step);
         filled = writer::put_answer(accessed, answer, out, filled);

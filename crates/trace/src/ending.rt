@@ -14,15 +14,17 @@ ghost use Rattle.map.specs.Lookup.{rangesIn};
 ghost use Rattle.trace.specs.Buffers.{Put};
 ghost use Rattle.trace.specs.Endings.{stateText, ownerText, rangeLine, rangeLines, ending, leftOver};
 
+// The saved text, or the refusal in its place.
 fn put_state(hart: Hart, out: &mut [u8]) -> usize
     requires { ⌜ 1027 ≤ length (now out) ⌝ }
     ensures { λ r. ⌜ Put (now (out .entry)) 0 (stateText hart) (now (out .exit)) r ⌝ }
 {
-    if hart.can_hold() {
-        hart.save(out);
+    let answer = hart.save(out);
+    let refusal = steps::refusal_of(answer);
+    if refusal == 0 {
         1027
     } else {
-        0
+        put_numbered(b"refused ", refusal, out, 0)
     }
 }
 
@@ -70,7 +72,7 @@ pub(crate) fn left_over(stopped: bool, came: usize) -> u64
     if stopped { 0 } else { (came % 60) as u64 }
 }
 
-// The saved text of the end state, the ranges of the map and the bytes left over.
+// The saved text of the end state or its refusal, the ranges of the map and the bytes left over.
 pub(crate) fn put_ending(replay: Replay, left: u64, out: &mut [u8]) -> usize
     requires { ⌜ 4096 ≤ length (now out) ⌝ }
     ensures { λ r. ⌜ Put (now (out .entry)) 0 (ending replay left) (now (out .exit)) r ⌝ }

@@ -11,6 +11,7 @@ use map::Map;
 ghost use mathlib.Core.Path.{_≡_};
 ghost use Prim.Native.Nat.{_≤_};
 ghost use lib.ListN.{length};
+ghost use Rattle.paging.specs.Memory.{memoryAt};
 ghost use Rattle.trace.specs.Buffers.{writtenFront, writtenLength};
 ghost use Rattle.trace.specs.Sessions.{sessionFrom, resetSession, textSession, fed, pieceLines, pieceRoom, sessionEnding};
 
@@ -57,11 +58,11 @@ impl Session {
         session_from(hart, map, refusal)
     }
 
-    // Steps through the whole records of a piece and writes their lines to the front of a buffer that has 64 bytes for each. A piece of
+    // Steps through the whole records of a piece, lends each the memory, and writes their lines to the front of a buffer that has 64 bytes for each. A piece of
     // 61,440 bytes is full; any other is the last one. A session that has ended stays as it is, and so does one whose buffer is too small.
-    pub fn feed(self, piece: &[u8], out: &mut [u8]) -> Fed
-        ensures { λ r. ⌜ r ≡ fed self (now (piece .entry)) (now (out .entry)) ⌝ }
-        ensures { λ _. ⌜ now (out .exit) ≡ writtenFront (pieceRoom (now (piece .entry))) (pieceLines self (now (piece .entry))) (now (out .entry)) ⌝ }
+    pub fn feed(self, memory: &[u64], base: u64, piece: &[u8], out: &mut [u8]) -> Fed
+        ensures { λ r. ⌜ r ≡ fed (memoryAt (now (memory .entry)) base) self (now (piece .entry)) (now (out .entry)) ⌝ }
+        ensures { λ _. ⌜ now (out .exit) ≡ writtenFront (pieceRoom (now (piece .entry))) (pieceLines (memoryAt (now (memory .entry)) base) self (now (piece .entry))) (now (out .entry)) ⌝ }
         ensures { λ r. ⌜ r .filled ≤ length (now (out .entry)) ⌝ }
     {
         if !self.more {
@@ -78,7 +79,7 @@ impl Session {
             };
         }
         let start = self.replay;
-        let written = batch(piece, out, start);
+        let written = batch(memory, base, piece, out, start);
         let replay = written.replay;
         let left = left_over(replay.stopped, came);
         let more = (came == 61440) & !replay.stopped;
@@ -94,8 +95,8 @@ impl Session {
         }
     }
 
-    // Writes what comes behind the lines of the records to the front of a buffer of at least 4,096 bytes: the saved text of the end state, the
-    // ranges of the map and the bytes left over, or the refusal of the text alone. Nothing is written where there may be more input.
+    // Writes what comes behind the lines of the records to the front of a buffer of at least 4,096 bytes: the saved text of the end state
+    // or the refusal of saving it, the ranges of the map and the bytes left over, or the refusal of the text that was to be the start alone. Nothing is written where there may be more input.
     pub fn finish(self, out: &mut [u8]) -> usize
         ensures { λ r. ⌜ r ≡ writtenLength 4096 (sessionEnding self) (now (out .entry)) ⌝ }
         ensures { λ _. ⌜ now (out .exit) ≡ writtenFront 4096 (sessionEnding self) (now (out .entry)) ⌝ }

@@ -7,7 +7,8 @@ use std::time::Instant;
 
 use reference::csr::Operation;
 use reference::csr::number::{MSCRATCH, MSTATUS, PMPADDR0, SSTATUS};
-use reference::{Access, Hart, Map, Mode, Step, query, step};
+use reference::sv39::{PAGE, pte, satp};
+use reference::{Access, Hart, Map, Memory, Mode, SUPERVISOR, Step, query, step};
 
 const RUNS: usize = 7;
 const DEFAULT_STEPS: u64 = 2_000_000;
@@ -27,6 +28,7 @@ fn main() {
     report("traps and returns", steps, || steps_of(&[Step::Ecall, Step::Mret]));
     report("PMP writes, map compiled", steps, protection_writes);
     report("byte rule, 8 bytes, 16 entries", steps, byte_rule);
+    report("translated loads, 4 KiB pages", steps, translated_loads);
     report("map query, 33 ranges", steps, map_query);
 }
 
@@ -47,7 +49,7 @@ fn steps_of(steps: &[Step]) -> impl FnMut(u64) + use<> {
     let (mut hart, mut map) = (Hart::reset(), Map::reset());
     let mut place = 0;
     move |_| {
-        black_box(step(&mut hart, &mut map, black_box(steps[place])));
+        black_box(step(&mut hart, &mut map, Memory::EMPTY, black_box(steps[place])));
         place = if place + 1 == steps.len() { 0 } else { place + 1 };
     }
 }
@@ -78,7 +80,7 @@ fn protection_writes() -> impl FnMut(u64) {
         let number = PMPADDR0 + place % 16;
         let operand = 2 * (place % 16) + 1 + 64 * (place / 16 % 2 + 1);
         let next = Step::CsrWrite { number, operation: Operation::Write, operand };
-        black_box(step(&mut hart, &mut map, black_box(next)));
+        black_box(step(&mut hart, &mut map, Memory::EMPTY, black_box(next)));
     }
 }
 
@@ -88,7 +90,25 @@ fn byte_rule() -> impl FnMut(u64) {
     let mut map = hart.compile();
     move |place| {
         let next = Step::Load { address: 0x1000 + place % 64, size: 8 };
-        black_box(step(&mut hart, &mut map, black_box(next)));
+        black_box(step(&mut hart, &mut map, Memory::EMPTY, black_box(next)));
+    }
+}
+
+/// Three tables, with pages of S at every number of the last, and one entry for all
+/// memory.
+fn translated_loads() -> impl FnMut(u64) {
+    const BASE: u64 = 0x8000_0000;
+    let mut words = vec![0; 3 * 512];
+    words[0] = (BASE + PAGE) >> 2 | pte::V;
+    words[512] = (BASE + 2 * PAGE) >> 2 | pte::V;
+    words[1024..].fill(0x9000_0000 >> 2 | pte::V | pte::R | pte::A);
+    let mut hart = Hart { mode: SUPERVISOR, satp: satp::SV39 << 60 | BASE >> 12, ..Hart::reset() };
+    (hart.pmpcfg[0], hart.pmpaddr[0]) = (0x1F, (1 << 54) - 1);
+    let mut map = hart.compile();
+    move |place| {
+        let next = Step::Load { address: PAGE * (place % 512) + 8 * (place % 500), size: 8 };
+        let memory = Memory { words: &words, base: BASE };
+        black_box(step(&mut hart, &mut map, memory, black_box(next)));
     }
 }
 

@@ -38,6 +38,7 @@ impl Hart {
             SCAUSE => self.scause,
             STVAL => self.stval,
             SIP => self.pending() & self.mideleg,
+            SATP => self.satp,
             _ => 0,
         }
     }

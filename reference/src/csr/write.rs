@@ -2,7 +2,7 @@
 
 use super::number::*;
 use crate::hart::Hart;
-use crate::holdable::{can_hold_tvec, mask};
+use crate::holdable::{can_hold_satp_mode, can_hold_tvec, mask};
 use crate::status;
 
 /// The supervisor software interrupt, the one pending bit S may write.
@@ -37,6 +37,7 @@ impl Hart {
             SCAUSE => self.scause = value & mask::CAUSE,
             STVAL => self.stval = value,
             SIP => self.mip = replace(self.mip, SSIP & self.mideleg, value),
+            SATP if can_hold_satp_mode(value) => self.satp = value & mask::SATP,
             _ => {}
         }
     }

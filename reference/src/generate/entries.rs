@@ -7,7 +7,7 @@ use crate::protection::{LOCK, NA4, NAPOT, OFF, TOR};
 use crate::random::Random;
 
 /// The rights a byte can hold: never W without R.
-const RIGHTS: [u8; 6] = [0, 1, 3, 4, 5, 7];
+pub const RIGHTS: [u8; 6] = [0, 1, 3, 4, 5, 7];
 
 /// The values of pmpaddr at which NAPOT or TOR reach the end of memory.
 const EXTREMES: [u64; 12] = [

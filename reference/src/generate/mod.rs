@@ -1,11 +1,13 @@
-//! Random states, maps, steps and texts, biased to where programs go wrong, the
-//! shapes of NAPOT registers, and settings that make many ranges.
+//! Random states, maps, steps, texts and page tables, biased to where programs go
+//! wrong, the shapes of NAPOT registers, and settings that make many ranges.
 
 mod address;
 mod entries;
 mod interrupts;
 mod map;
+mod memory;
 mod napot;
+mod paging;
 mod settings;
 mod state;
 mod step;
@@ -15,9 +17,11 @@ mod tiles;
 pub use address::{address, near_range};
 pub use interrupts::mixed_delegation;
 pub use map::map;
+pub use memory::memory;
 pub use napot::napot_registers;
+pub use paging::{Paging, paging};
 pub use settings::{Setting, settings};
-pub use state::{damaged, holdable};
+pub use state::{damaged, holdable, narrowed};
 pub use step::{csr_operand, size, step};
 pub use text::text;
 pub use tiles::tiles;

@@ -1,10 +1,12 @@
-//! States that a hart can hold, and states that it cannot.
+//! States that a hart can hold, and states that it cannot. Half of the former have a
+//! saved text.
 
 use super::entries::fill_entries;
 use crate::hart::{HART_WORDS, Hart, MACHINE, SUPERVISOR, USER};
 use crate::holdable::mask;
 use crate::random::Random;
 use crate::status;
+use crate::sv39::satp;
 
 pub fn holdable(random: &mut Random) -> Hart {
     let mut hart = Hart::reset();
@@ -17,7 +19,31 @@ pub fn holdable(random: &mut Random) -> Hart {
     if !random.once_in(20) {
         fill_entries(random, &mut hart);
     }
+    if random.once_in(2) {
+        return narrowed(&hart);
+    }
+    hart.satp = satp_value(random);
     hart
+}
+
+/// The same with what the saved text has no room for left out.
+pub fn narrowed(hart: &Hart) -> Hart {
+    Hart {
+        mstatus: hart.mstatus & (status::FIXED | mask::text::MSTATUS),
+        medeleg: hart.medeleg & mask::text::MEDELEG,
+        satp: 0,
+        ..*hart
+    }
+}
+
+/// A PPN with either MODE, or nothing.
+fn satp_value(random: &mut Random) -> u64 {
+    let ppn = match random.below(3) {
+        0 => random.below(16),
+        1 => 0x8_0000 | random.below(64),
+        _ => random.word() & satp::PPN,
+    };
+    random.pick(&[0, ppn, satp::SV39 << satp::MODE_SHIFT | ppn])
 }
 
 fn mstatus(random: &mut Random) -> u64 {
@@ -76,12 +102,13 @@ fn fill_trap_registers(random: &mut Random, hart: &mut Hart) {
 pub fn damaged(random: &mut Random) -> [u64; HART_WORDS] {
     let mut words = holdable(random).to_words();
     let place = random.index(HART_WORDS);
-    match random.below(6) {
+    match random.below(7) {
         0 => words[0] = random.pick(&[2, 4, 7, 256, 1 << 32 | 3, 1 << 63 | 1]),
         1 => words[2] = status::with_mpp(words[2], 2),
         2 => words[23 + random.index(2)] ^= random.pick(&[2, 3, 32, 64]) << (8 * random.below(8)),
         3 => words[place] = random.word(),
         4 => words[25 + random.index(16)] |= 1 << (54 + random.below(10)),
+        5 => words[41] ^= 1 << (44 + random.below(20)),
         _ => words[place] ^= 1 << random.below(64),
     }
     words

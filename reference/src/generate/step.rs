@@ -12,6 +12,7 @@ use crate::map::Map;
 use crate::protection::LOCK;
 use crate::random::Random;
 use crate::step::LAST_STEP;
+use crate::sv39::satp;
 
 pub fn step(random: &mut Random, hart: &Hart, map: &Map) -> [u64; 3] {
     let number = match random.below(3) {
@@ -105,8 +106,16 @@ pub fn csr_operand(random: &mut Random, number: u64) -> u64 {
         MTVEC | STVEC | MEPC | SEPC if random.once_in(2) => {
             instruction_address(random) | random.below(4)
         }
+        SATP if random.once_in(2) => satp(random),
         _ => random.telling_word(),
     }
+}
+
+/// Any MODE, most often one that satp can have, with bits of ASID and PPN.
+fn satp(random: &mut Random) -> u64 {
+    let other = random.below(16);
+    let mode = random.pick(&[0, 8, 8, 8, other]);
+    mode << satp::MODE_SHIFT | random.bits(!(0xF << satp::MODE_SHIFT))
 }
 
 /// Eight configuration bytes, few of them locked, some with bits to drop.

@@ -1,9 +1,11 @@
 //! Short forms shared by the tests.
 #![allow(dead_code)]
 
+pub mod paging;
+
 use reference::{
-    Access, Answer, Cause, Entry, Hart, MACHINE, Map, Mode, Range, Refusal, Ruling, Step, Verdict,
-    step,
+    Access, Answer, Cause, Entry, Hart, MACHINE, Map, Memory, Mode, Range, Refusal, Ruling, Step,
+    Verdict, step,
 };
 
 pub const WRITE: u64 = 1;
@@ -34,8 +36,19 @@ pub fn run(hart: &Hart, number: u64, a: u64, b: u64) -> (Hart, Answer) {
 }
 
 pub fn run_with_map(hart: &Hart, map: &Map, number: u64, a: u64, b: u64) -> (Hart, Map, Answer) {
+    run_with_memory(hart, map, Memory::EMPTY, number, a, b)
+}
+
+pub fn run_with_memory(
+    hart: &Hart,
+    map: &Map,
+    memory: Memory,
+    number: u64,
+    a: u64,
+    b: u64,
+) -> (Hart, Map, Answer) {
     let (mut hart, mut map) = (*hart, *map);
-    let answer = step(&mut hart, &mut map, Step::from_words(number, a, b).unwrap());
+    let answer = step(&mut hart, &mut map, memory, Step::from_words(number, a, b).unwrap());
     (hart, map, answer)
 }
 

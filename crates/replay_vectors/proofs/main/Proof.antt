@@ -4,10 +4,10 @@ use Rattle.replay_vectors.proofs.main.Statement.{statement}
 use Rattle.replay_vectors.proofs.main.Tie as tie
 
 abbrev Inv-loop : tie.InvT-loop
-Inv-loop count pair₀ pair-end pair = (pair ≤ pair-end) × (2 * pair-end ≤ count)
+Inv-loop count case₀ case-end case = (case ≤ case-end) × (3 * case-end ≤ count)
 
 abbrev μ-loop : tie.MeasureT-loop
-μ-loop count pair₀ pair-end pair = pair-end - pair
+μ-loop count case₀ case-end case = case-end - case
 
 pub main-spec : {M : Type 1} → statement M
 main-spec =
@@ -16,6 +16,8 @@ main-spec =
     Inv-loop
     μ-loop
     (λ c κs. search needs)
+    (λ c. search needs)
+    (λ c. search needs)
     (λ c. search needs)
     (λ c. search needs)
     (λ c. search needs)

@@ -5,10 +5,10 @@ use Rattle.step_speed.proofs.set_up.Statement.{statement}
 use Rattle.step_speed.proofs.set_up.Tie as tie
 
 abbrev Inv-loop : tie.InvT-loop
-Inv-loop hart₀ map₀ place₀ hart map place = place ≤ 23
+Inv-loop mix hart₀ map₀ none count place₀ hart map place = place ≤ count
 
 abbrev μ-loop : tie.MeasureT-loop
-μ-loop hart₀ map₀ place₀ hart map place = 23 - place
+μ-loop mix hart₀ map₀ none count place₀ hart map place = count - place
 
 pub set-up-spec : {M : Type 1} → statement M
 set-up-spec =
@@ -17,6 +17,8 @@ set-up-spec =
     Inv-loop
     μ-loop
     (λ c κs. search needs)
+    (λ c κs. search needs)
+    (λ c. search needs)
     (λ c. search needs)
     (λ c κs. search needs)
     (λ c κs. search needs)

@@ -5,10 +5,10 @@ use Rattle.step_speed.proofs.step_through.Statement.{statement}
 use Rattle.step_speed.proofs.step_through.Tie as tie
 
 abbrev Inv-loop : tie.InvT-loop
-Inv-loop mix count hart₀ map₀ sum₀ done₀ hart map sum done = done ≤ count
+Inv-loop mix memory base count hart₀ map₀ sum₀ done₀ hart map sum done = done ≤ count
 
 abbrev μ-loop : tie.MeasureT-loop
-μ-loop mix count hart₀ map₀ sum₀ done₀ hart map sum done = count - done
+μ-loop mix memory base count hart₀ map₀ sum₀ done₀ hart map sum done = count - done
 
 pub step-through-spec : {M : Type 1} → statement M
 step-through-spec =

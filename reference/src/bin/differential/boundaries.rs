@@ -12,7 +12,8 @@ use reference::random::Random;
 use reference::{Hart, MACHINE, Map, Mode, RANGES, form, generate, mask};
 
 use crate::accesses::compare_access;
-use crate::compare::{Lent, step_both};
+use crate::compare::step_both;
+use crate::lent::Lent;
 use crate::report::{Difference, Stage};
 use crate::sizes::Sizes;
 use crate::texts::restore_both;
@@ -76,7 +77,8 @@ pub fn walk(sizes: &Sizes) -> Result<Judged, Difference> {
 }
 
 fn with_setting(random: &mut Random, setting: &Setting) -> Hart {
-    setting.put(&Hart { mode: MACHINE, ..generate::holdable(random) })
+    let hart = generate::narrowed(&generate::holdable(random));
+    setting.put(&Hart { mode: MACHINE, ..hart })
 }
 
 /// Writes one of the protection registers last, from a map of any kind. No entry
@@ -85,7 +87,7 @@ fn write_last(random: &mut Random, hart: &Hart) -> Result<Lent, String> {
     let hart = Hart { pmpcfg: hart.pmpcfg.map(|byte| byte & !LOCK), ..*hart };
     let (start, number, value) = before_write(&hart, random.index(18));
     let map = generate::map(random, &start).to_words();
-    step_both(&Lent { hart: start.to_words(), map }, [WRITE, number, value])
+    step_both(&Lent::new(start.to_words(), map), [WRITE, number, value])
 }
 
 /// The hart before the write, its number and its value. All bits of a pmpaddr

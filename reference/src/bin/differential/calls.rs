@@ -5,7 +5,7 @@ use reference::capi;
 use reference::random::Random;
 use reference::{ANSWER_WORDS, HART_WORDS, MAP_WORDS, STEP_WORDS};
 
-use crate::compare::Lent;
+use crate::lent::Lent;
 use crate::queries::random_question;
 use crate::report::{Difference, Stage};
 use crate::sizes::Sizes;
@@ -78,7 +78,7 @@ fn wrong_step(random: &mut Random, lent: &Lent) -> Result<(), String> {
         before.spoil(random);
     }
     let mut after = before.clone();
-    let call = capi::step(&mut after.hart, &mut after.map, words, &mut after.answer);
+    let call = capi::step(&mut after.hart, &mut after.map, lent.memory(), words, &mut after.answer);
     judge(call, &before, &after, &format!("step {words:x?}"))
 }
 
@@ -99,7 +99,7 @@ fn wrong_run(random: &mut Random, lent: &Lent) -> Result<(), String> {
         }
     }
     let mut after = before.clone();
-    let call = capi::run(&mut after.hart, &mut after.map, &steps, &mut after.answer);
+    let call = capi::run(&mut after.hart, &mut after.map, lent.memory(), &steps, &mut after.answer);
     judge(call, &before, &after, &format!("run of {} words {steps:x?}", steps.len()))
 }
 

@@ -1,82 +1,9 @@
 //! One step or list of steps on both sides.
 
-use reference::random::Random;
-use reference::{
-    ANSWER_WORDS, HART_WORDS, Hart, MAP_WORDS, Map, STEP_WORDS, Step, capi, generate, step,
-};
+use reference::{ANSWER_WORDS, MAP_WORDS, STEP_WORDS};
 
-use crate::report::{answer_text, map_text, show, state_difference, state_text};
-
-/// The words of an answer before a call, unlike those of any answer, so that each
-/// has to be written.
-pub const UNWRITTEN: [u64; ANSWER_WORDS] = [u64::MAX, 0x5555, 0xAAAA, 0x3333];
-
-/// What a step leaves, and its answer.
-type Outcome = (Lent, [u64; ANSWER_WORDS]);
-
-/// The words of a hart and its map.
-#[derive(Clone, PartialEq, Eq)]
-pub struct Lent {
-    pub hart: [u64; HART_WORDS],
-    pub map: [u64; MAP_WORDS],
-}
-
-impl Lent {
-    /// A state, most often one a hart can hold, and a map, lawful or not.
-    pub fn random(random: &mut Random) -> Lent {
-        let held = match random.below(4) {
-            0 => generate::mixed_delegation(random),
-            _ => generate::holdable(random),
-        };
-        let map = generate::map(random, &held).to_words();
-        let hart = if random.once_in(8) { generate::damaged(random) } else { held.to_words() };
-        Lent { hart, map }
-    }
-
-    pub fn text(&self) -> String {
-        format!("state\n{}map\n{}", state_text(&self.hart), map_text(&self.map))
-    }
-
-    pub fn reference_step(&self, words: [u64; STEP_WORDS]) -> Outcome {
-        let mut hart = Hart::from_words(&self.hart);
-        let mut map = Map::from_words(&self.map);
-        let next = Step::from_words(words[0], words[1], words[2]).expect("a step there is");
-        let answer = step(&mut hart, &mut map, next).words();
-        (Lent { hart: hart.to_words(), map: map.to_words() }, answer)
-    }
-
-    /// The product's step, which must find all it is lent in order.
-    pub fn product_step(&self, words: [u64; STEP_WORDS]) -> Result<Outcome, String> {
-        self.product_call("step", words, capi::step)
-    }
-
-    /// The same by a run of this step alone.
-    pub fn product_run(&self, words: [u64; STEP_WORDS]) -> Result<Outcome, String> {
-        self.product_call("run", words, |hart, map, words, answer| {
-            capi::run(hart, map, &words, answer)
-        })
-    }
-
-    fn product_call(
-        &self,
-        name: &str,
-        words: [u64; STEP_WORDS],
-        call: impl Fn(&mut [u64], &mut [u64], [u64; STEP_WORDS], &mut [u64]) -> u64,
-    ) -> Result<Outcome, String> {
-        show(|| format!("{}{name} {words:x?}", self.text()));
-        let mut after = self.clone();
-        let mut answer = UNWRITTEN;
-        match call(&mut after.hart, &mut after.map, words, &mut answer) {
-            1 => Ok((after, answer)),
-            given => Err(format!("the {name}'s call gives {given}")),
-        }
-    }
-
-    /// Whether the step must hand back a map made anew.
-    pub fn makes_map(&self, after: &Lent, number: u64) -> bool {
-        number == 0 || self.hart[23..] != after.hart[23..]
-    }
-}
+use crate::lent::{Lent, Outcome};
+use crate::report::{answer_text, map_text, state_difference};
 
 /// Where two maps differ. Of a map made anew only the ranges it lists are
 /// fixed; one handed back as given must have every word as before.
@@ -117,15 +44,19 @@ pub fn result_difference(expected: &Outcome, found: &Outcome, made_anew: bool) -
     Some(format!("reference: {}\nproduct: {}\n{text}", answers[0], answers[1]))
 }
 
-/// One step on both sides, from the same state and map.
-pub fn compare_step(lent: &Lent, words: [u64; STEP_WORDS]) -> Result<(), String> {
-    step_both(lent, words).map(drop)
+/// One step on both sides, from the same state and map. Gives the answer.
+pub fn compare_step(lent: &Lent, words: [u64; STEP_WORDS]) -> Result<[u64; ANSWER_WORDS], String> {
+    stepped(lent, words).map(|(_, answer)| answer)
 }
 
 /// The same, to go on from: gives what the product leaves.
 pub fn step_both(lent: &Lent, words: [u64; STEP_WORDS]) -> Result<Lent, String> {
+    stepped(lent, words).map(|(left, _)| left)
+}
+
+fn stepped(lent: &Lent, words: [u64; STEP_WORDS]) -> Result<Outcome, String> {
     let expected = lent.reference_step(words);
-    agreed(lent, words, &expected, lent.product_step(words)).map(|(left, _)| left)
+    agreed(lent, words, &expected, lent.product_step(words))
 }
 
 /// One step on both sides, by the product as a step and as a run: inside, these may

@@ -6,7 +6,7 @@ use reference::protection::leaves_memory;
 use reference::{Hart, NONE, STEP_WORDS, Step};
 
 use crate::classes::{Class, Tally};
-use crate::compare::Lent;
+use crate::lent::Lent;
 use crate::report::Difference;
 
 /// The lowest entry that matches each byte of an access; nothing past memory.
@@ -27,15 +27,18 @@ const CLASSES: [Class<Access>; 5] = [
 ];
 
 impl Access {
-    /// The access of an accepted step 14 to 16.
+    /// The access of an accepted step 14 to 16 with a physical address.
     fn of(lent: &Lent, words: [u64; STEP_WORDS]) -> Option<Access> {
-        let (address, size) = match Step::from_words(words[0], words[1], words[2])? {
-            Step::Fetch => (Hart::from_words(&lent.hart).pc, 4),
-            Step::Load { address, size } | Step::Store { address, size } => (address, size),
+        let hart = Hart::from_words(&lent.hart);
+        let (mode, address, size) = match Step::from_words(words[0], words[1], words[2])? {
+            Step::Fetch => (hart.mode, hart.pc, 4),
+            Step::Load { address, size } | Step::Store { address, size } => {
+                (hart.effective_mode(), address, size)
+            }
             _ => return None,
         };
-        let hart = Hart::from_words(&lent.hart);
-        if !hart.can_hold() || !matches!(size, 1 | 2 | 4 | 8) {
+        let accepted = hart.can_hold() && lent.memory().is_lawful();
+        if !accepted || !matches!(size, 1 | 2 | 4 | 8) || hart.is_translated(mode) {
             return None;
         }
         let inside = if leaves_memory(address, size) { 0 } else { size };

@@ -3,7 +3,8 @@
 use reference::random::Random;
 use reference::{HART_WORDS, TEXT_LENGTH, form, generate};
 
-use crate::compare::{Lent, compare_step};
+use crate::compare::compare_step;
+use crate::lent::Lent;
 use crate::queries::{compare_query, random_question};
 use crate::report::{Difference, Stage};
 use crate::sizes::Sizes;
@@ -24,7 +25,7 @@ pub fn walk(sizes: &Sizes) -> Result<u64, Difference> {
         let map = generate::map(random, &held).to_words();
         let mut hart = held.to_words();
         change(&mut hart, case as usize % (BITS + BYTES));
-        compare_calls(random, &Lent { hart, map })
+        compare_calls(random, &Lent::new(hart, map))
     })?;
     Ok(states)
 }

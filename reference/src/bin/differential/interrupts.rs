@@ -3,7 +3,8 @@
 use reference::random::Random;
 use reference::{Hart, Mode, generate, mask, status};
 
-use crate::compare::{Lent, compare_step};
+use crate::compare::compare_step;
+use crate::lent::Lent;
 use crate::orders::{Orders, TAKE_INTERRUPT};
 use crate::report::{Difference, Stage};
 use crate::sizes::Sizes;
@@ -29,10 +30,10 @@ pub fn walk(sizes: &Sizes) -> Result<Orders, Difference> {
     Stage::new("interrupts", sizes, sizes.walks * CHOICES).run(|random, case| {
         let hart = choice(random, case);
         let map = generate::map(random, &hart).to_words();
-        let lent = Lent { hart: hart.to_words(), map };
+        let lent = Lent::new(hart.to_words(), map);
         let words = [TAKE_INTERRUPT, random.telling_word(), random.telling_word()];
         orders.count(&lent, words);
-        compare_step(&lent, words)
+        compare_step(&lent, words).map(drop)
     })?;
     let expected = sizes.walks * TELLING_CHOICES;
     if sizes.only.is_none() && orders.differing != expected {

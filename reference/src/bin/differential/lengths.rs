@@ -4,12 +4,11 @@ use reference::random::Random;
 use reference::{ANSWER_WORDS, STEP_WORDS, capi};
 
 use crate::calls::{Slices, judge};
-use crate::compare::Lent;
+use crate::lent::Lent;
 use crate::report::{Difference, Stage};
 use crate::runs::compare_run;
 use crate::sizes::Sizes;
 use crate::steps::random_step;
-use crate::telling::Telling;
 
 /// Lengths below these: up to four steps, and up to five answers.
 const STEPS: usize = 4 * STEP_WORDS + 1;
@@ -24,7 +23,7 @@ pub fn walk(sizes: &Sizes) -> Result<u64, Difference> {
         let lent = Lent::random(random);
         if ANSWER_WORDS * steps == STEP_WORDS * answers {
             let length = (steps / STEP_WORDS) as u64;
-            return compare_run(random, &lent, length, &mut Telling::new());
+            return compare_run(&lent, length, |lent| random_step(random, lent));
         }
         misfit(random, &lent, steps, answers)
     })?;
@@ -36,6 +35,6 @@ fn misfit(random: &mut Random, lent: &Lent, steps: usize, answers: usize) -> Res
     words.truncate(steps);
     let before = Slices::new(lent, answers);
     let mut after = before.clone();
-    let call = capi::run(&mut after.hart, &mut after.map, &words, &mut after.answer);
+    let call = capi::run(&mut after.hart, &mut after.map, lent.memory(), &words, &mut after.answer);
     judge(call, &before, &after, &format!("run of {steps} words {words:x?}"))
 }

@@ -2,10 +2,11 @@
 //! difference.
 //!
 //! `differential [small] [loud] [only=N] [seed=N] [walks=N] [steps=N] [runs=N]
-//! [queries=N] [texts=N] [calls=N]`: numbers are decimal; one walk is every CSR number in
+//! [queries=N] [texts=N] [calls=N] [paging=N]`: numbers are decimal; one walk is every CSR number in
 //! every mode by every operation with all else that its access hangs on, every choice
 //! that step 7 can have to make, every shape of a NAPOT register, every setting listed
-//! for the boundaries of a map, every map of a few ranges over a few bytes, every bit of
+//! for the boundaries of a map, every map of a few ranges over a few bytes, the bits of a
+//! page-table entry at every level by every kind of access, every bit of
 //! every word of a state and every configuration byte, every place of a text with
 //! telling bytes, and every length of a short run and its answers. Should the product
 //! end the program, `loud` tells the case, and `only` what it was lent.
@@ -21,7 +22,8 @@
 //! goes for the NAPOT entries whose range would be another if trailing zeros were
 //! counted: 3,074 in each walk. And for the maps with 33 ranges that the listed
 //! settings make: 406 in each walk. Of queries, and of accesses by steps, it tells how
-//! many were of each class; the comparison fails where a class has too few of them.
+//! many were of each class; the comparison fails where a class has too few of them. So
+//! it does of the accesses by page tables, whose ends `diagnosis.rs` judges by itself.
 
 mod accesses;
 mod boundaries;
@@ -29,12 +31,17 @@ mod calls;
 mod classes;
 mod compare;
 mod deciders;
+mod diagnosis;
+mod entries;
 mod held;
 mod interrupts;
 mod lengths;
+mod lent;
 mod napot;
 mod narrow;
 mod orders;
+mod outcomes;
+mod paging;
 mod queries;
 mod reading;
 mod reads;
@@ -47,6 +54,7 @@ mod steps;
 mod telling;
 mod texts;
 mod trailing;
+mod walker;
 
 use std::process::ExitCode;
 use std::time::Instant;
@@ -83,6 +91,7 @@ fn compare_all(sizes: &Sizes) -> Result<String, Difference> {
     let trailing = napot::walk(sizes)?;
     let judged = boundaries::walk(sizes)?;
     let narrow = narrow::walk(sizes)?;
+    let entries = entries::walk(sizes)?;
     let held = held::walk(sizes)?;
     let spelled = texts::walk(sizes)?;
     let lengths = lengths::walk(sizes)?;
@@ -90,18 +99,21 @@ fn compare_all(sizes: &Sizes) -> Result<String, Difference> {
     let (run_steps, run_telling) = runs::random(sizes)?;
     let reads = queries::random(sizes)?;
     texts::restored(sizes)?;
-    texts::saved(sizes)?;
+    let without_text = texts::saved(sizes)?;
     calls::wrong(sizes)?;
+    let outcomes = paging::random(sizes)?;
     if let Some(case) = sizes.only {
         return Ok(format!("case {case} alone of each stage"));
     }
     Ok(format!(
         "CSR walks of {reasons}, interrupt walks of {walk_orders}, NAPOT walks of {trailing}, \
          boundary walks of {judged}, walks over narrow maps, each of {narrow}, \
+         walks over page-table entries of {entries}, \
          {held} states with one word changed, {spelled} texts with one byte changed, \
          {lengths} runs of any lengths, {} random steps with {step_telling}, \
          {} runs of {run_steps} steps with {run_telling}, \
-         {} queries with {reads}, {} texts read, {} texts saved, {} wrong calls",
-        sizes.steps, sizes.runs, sizes.queries, sizes.texts, sizes.texts, sizes.calls
+         {} queries with {reads}, {} texts read, {} texts saved ({without_text} refused 12), {} wrong calls, \
+         {} settings of page tables with {outcomes}",
+        sizes.steps, sizes.runs, sizes.queries, sizes.texts, sizes.texts, sizes.calls, sizes.paging
     ))
 }

@@ -8,7 +8,8 @@ use reference::random::Random;
 use reference::{Hart, MACHINE, Range, SUPERVISOR, USER, generate, mask};
 
 use crate::accesses::compare_access;
-use crate::compare::{Lent, step_both};
+use crate::compare::step_both;
+use crate::lent::Lent;
 use crate::report::{Difference, Stage};
 use crate::sizes::Sizes;
 use crate::trailing::Trailing;
@@ -69,7 +70,7 @@ pub fn walk(sizes: &Sizes) -> Result<Trailing, Difference> {
 fn locked_entry(random: &mut Random, entry: usize, pmpaddr: u64) -> Result<Lent, String> {
     let hart = only_entry(random, entry, pmpaddr ^ mask::PMPADDR);
     let map = generate::map(random, &hart).to_words();
-    let start = Lent { hart: hart.to_words(), map };
+    let start = Lent::new(hart.to_words(), map);
     let written = step_both(&start, [WRITE, number::PMPADDR0 + entry as u64, pmpaddr])?;
     let pmpcfg = if entry < 8 { number::PMPCFG0 } else { number::PMPCFG2 };
     step_both(&written, [SET, pmpcfg, u64::from(LOCK) << (8 * (entry % 8))])

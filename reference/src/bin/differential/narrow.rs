@@ -7,7 +7,7 @@ use reference::protection::{LOCK, MEMORY};
 use reference::random::Random;
 use reference::{Hart, Map, Mode, NONE, RANGES, Range};
 
-use crate::compare::Lent;
+use crate::lent::Lent;
 use crate::queries::compare_query;
 use crate::reads::Reads;
 use crate::report::{Difference, Stage};
@@ -45,7 +45,7 @@ pub fn walk(sizes: &Sizes) -> Result<Reads, Difference> {
             let walk = case / maps;
             let start = if walk.is_multiple_of(2) { 0 } else { MEMORY - window.bytes };
             let map = window.map(&choices, case % maps, start);
-            let lent = Lent { hart: hart(random).to_words(), map: map.to_words() };
+            let lent = Lent::new(hart(random).to_words(), map.to_words());
             let reads = if walk == 0 { Some(&mut reads) } else { None };
             window.compare(random, &lent, start, reads)
         })?;

@@ -5,7 +5,7 @@ use std::fmt::{self, Display, Formatter};
 
 use reference::Hart;
 
-use crate::compare::Lent;
+use crate::lent::Lent;
 
 pub const TAKE_INTERRUPT: u64 = 7;
 /// The list of document 01, written here apart from the model's own, so that the

@@ -4,7 +4,7 @@ use reference::capi::{self, Question};
 use reference::random::Random;
 use reference::{ANSWER_WORDS, Access, Hart, Map, Mode, generate, query};
 
-use crate::compare::{Lent, UNWRITTEN};
+use crate::lent::{Lent, UNWRITTEN};
 use crate::reads::Reads;
 use crate::report::{Difference, Stage, answer_text, show};
 use crate::sizes::Sizes;

@@ -5,7 +5,7 @@ use reference::capi::Question;
 use reference::protection::leaves_memory;
 use reference::{Map, NONE};
 
-use crate::compare::Lent;
+use crate::lent::Lent;
 
 /// The range read for a byte: its number and its owner.
 type Read = Option<(usize, u64)>;

@@ -6,7 +6,7 @@ use reference::capi::Question;
 use reference::{ANSWER_WORDS, NONE};
 
 use crate::classes::{Class, Tally};
-use crate::compare::Lent;
+use crate::lent::Lent;
 use crate::reading::Reading;
 use crate::report::Difference;
 

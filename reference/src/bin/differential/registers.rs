@@ -5,7 +5,8 @@ use std::collections::HashSet;
 use reference::random::Random;
 use reference::{Hart, Mode, STEP_WORDS, generate, status};
 
-use crate::compare::{Lent, compare_ways};
+use crate::compare::compare_ways;
+use crate::lent::Lent;
 use crate::reasons::{NUMBERS, READ, REASONS, Reasons};
 use crate::report::{Difference, Stage};
 use crate::sizes::Sizes;
@@ -83,7 +84,7 @@ pub fn walk(sizes: &Sizes) -> Result<Reasons, Difference> {
         let setting = &settings[case as usize % settings.len()];
         let hart = setting.hart(random);
         let map = generate::map(random, &hart);
-        let lent = Lent { hart: hart.to_words(), map: map.to_words() };
+        let lent = Lent::new(hart.to_words(), map.to_words());
         for words in accesses(random, setting.number) {
             reasons.count(&hart, words, compare_ways(&lent, words)?)?;
             seen.extend(told_apart(&hart, words));

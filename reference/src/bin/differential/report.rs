@@ -5,7 +5,7 @@ use std::ops::Range;
 use std::sync::atomic::{AtomicBool, Ordering};
 
 use reference::random::Random;
-use reference::{ANSWER_WORDS, HART_WORDS, KEYS, MAP_WORDS, Map, NONE};
+use reference::{ANSWER_WORDS, HART_WORDS, KEYS, MAP_WORDS, Map, Memory, NONE};
 
 use crate::sizes::Sizes;
 
@@ -78,10 +78,15 @@ impl<'a> Stage<'a> {
     }
 }
 
-/// A state in the form of the saved text, whether or not it can be held.
+/// The name of each word of a state.
+fn keys() -> impl Iterator<Item = &'static str> {
+    KEYS.into_iter().chain(["satp"])
+}
+
+/// A state in the style of the saved text, whether or not it can be held.
 pub fn state_text(words: &[u64; HART_WORDS]) -> String {
     let mut text = String::new();
-    for (key, word) in KEYS.iter().zip(words) {
+    for (key, word) in keys().zip(words) {
         let _ = writeln!(text, "  {key}={word:016x}");
     }
     text
@@ -97,6 +102,17 @@ pub fn map_text(words: &[u64; MAP_WORDS]) -> String {
     text
 }
 
+/// The words for page tables that are not 0, by their addresses.
+pub fn memory_text(memory: Memory) -> String {
+    let length = memory.words.len();
+    let mut text = format!("memory\n  base {:016x}, {length} words\n", memory.base);
+    for (place, word) in memory.words.iter().enumerate().filter(|&(_, &word)| word != 0) {
+        let address = memory.base.wrapping_add(8 * place as u64);
+        let _ = writeln!(text, "  {address:016x}: {word:016x}");
+    }
+    text
+}
+
 /// The owner of a range, or the entry that decided.
 fn owner_text(owner: u64) -> String {
     if owner == NONE { "none".into() } else { owner.to_string() }
@@ -105,7 +121,7 @@ fn owner_text(owner: u64) -> String {
 /// The words of a state in which the two programs differ.
 pub fn state_difference(expected: &[u64; HART_WORDS], found: &[u64; HART_WORDS]) -> String {
     let mut text = String::new();
-    for ((key, expected), found) in KEYS.iter().zip(expected).zip(found) {
+    for ((key, expected), found) in keys().zip(expected).zip(found) {
         if expected != found {
             let _ = writeln!(text, "  {key}: reference {expected:016x}, product {found:016x}");
         }

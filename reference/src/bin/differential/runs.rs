@@ -3,7 +3,8 @@
 use reference::random::Random;
 use reference::{ANSWER_WORDS, Hart, Map, STEP_WORDS, capi};
 
-use crate::compare::{Lent, map_difference, result_difference};
+use crate::compare::{map_difference, result_difference};
+use crate::lent::Lent;
 use crate::report::{Difference, Stage, show};
 use crate::sizes::Sizes;
 use crate::steps::random_step;
@@ -17,7 +18,11 @@ pub fn random(sizes: &Sizes) -> Result<(u64, Telling), Difference> {
         let start = random_start(random);
         let length = if random.once_in(50) { random.below(1000) } else { random.below(60) };
         steps += length;
-        compare_run(random, &start, length, &mut telling)
+        compare_run(&start, length, |lent| {
+            let words = random_step(random, lent);
+            telling.count(lent, words);
+            words
+        })
     })?;
     telling.check("runs")?;
     Ok((steps, telling))
@@ -25,23 +30,22 @@ pub fn random(sizes: &Sizes) -> Result<(u64, Telling), Difference> {
 
 fn random_start(random: &mut Random) -> Lent {
     match random.below(4) {
-        0 => Lent { hart: Hart::reset().to_words(), map: Map::reset().to_words() },
+        0 => Lent::new(Hart::reset().to_words(), Map::reset().to_words()),
         _ => Lent::random(random),
     }
 }
 
+/// A run of so many steps, each drawn for what the ones before leave.
 pub fn compare_run(
-    random: &mut Random,
     start: &Lent,
     length: u64,
-    telling: &mut Telling,
+    mut next: impl FnMut(&Lent) -> [u64; STEP_WORDS],
 ) -> Result<(), String> {
     let (mut expected, mut found) = (start.clone(), start.clone());
     let (mut steps, mut answers) = (Vec::new(), Vec::new());
     let mut made_anew = false;
     for place in 0..length {
-        let words = random_step(random, &expected);
-        telling.count(&expected, words);
+        let words = next(&expected);
         steps.extend(words);
         let told = |text| tell(start, &steps, &format!("step {place} of the list\n{text}"));
         let after = expected.reference_step(words);
@@ -56,7 +60,7 @@ pub fn compare_run(
     show(|| tell(start, &steps, "run"));
     let mut left = start.clone();
     let mut given = vec![u64::MAX; answers.len()];
-    let call = capi::run(&mut left.hart, &mut left.map, &steps, &mut given);
+    let call = capi::run(&mut left.hart, &mut left.map, start.memory(), &steps, &mut given);
     let same_map = map_difference(&found.map, &left.map, made_anew).is_none();
     let same = call == 1 && given == answers && left.hart == found.hart && same_map;
     if same { Ok(()) } else { Err(tell_run(start, &steps, &answers, &given, call)) }

@@ -8,6 +8,7 @@ pub struct Sizes {
     pub queries: u64,
     pub texts: u64,
     pub calls: u64,
+    pub paging: u64,
     /// Tell every case before it is done.
     pub loud: bool,
     /// Do this one case of each stage, and tell what is lent to each call.
@@ -22,6 +23,7 @@ const FULL: Sizes = Sizes {
     queries: 2_000_000,
     texts: 200_000,
     calls: 100_000,
+    paging: 100_000,
     loud: false,
     only: None,
 };
@@ -34,6 +36,7 @@ const SMALL: Sizes = Sizes {
     queries: 100_000,
     texts: 10_000,
     calls: 5_000,
+    paging: 5_000,
     ..FULL
 };
 
@@ -65,6 +68,7 @@ impl Sizes {
             "queries" => &mut self.queries,
             "texts" => &mut self.texts,
             "calls" => &mut self.calls,
+            "paging" => &mut self.paging,
             "only" => self.only.insert(0),
             _ => return Err(format!("{name}: no such size")),
         };

@@ -3,7 +3,8 @@
 use reference::random::Random;
 use reference::{Hart, Map, STEP_WORDS, generate};
 
-use crate::compare::{Lent, compare_step};
+use crate::compare::compare_step;
+use crate::lent::Lent;
 use crate::orders::TAKE_INTERRUPT;
 use crate::report::{Difference, Stage};
 use crate::sizes::Sizes;
@@ -19,7 +20,7 @@ pub fn random(sizes: &Sizes) -> Result<Telling, Difference> {
         let lent = Lent::random(random);
         let words = random_step(random, &lent);
         telling.count(&lent, words);
-        compare_step(&lent, words)
+        compare_step(&lent, words).map(drop)
     })?;
     telling.check("steps")?;
     Ok(telling)

@@ -4,8 +4,8 @@ use std::fmt::{self, Display, Formatter};
 
 use reference::STEP_WORDS;
 
-use crate::compare::Lent;
 use crate::deciders::Deciders;
+use crate::lent::Lent;
 use crate::orders::Orders;
 use crate::report::Difference;
 

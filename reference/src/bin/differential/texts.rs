@@ -5,7 +5,8 @@ use reference::{
     HART_WORDS, Hart, MAP_WORDS, Refusal, TEXT_LENGTH, capi, form, generate, restore, save,
 };
 
-use crate::compare::{Lent, map_difference};
+use crate::compare::map_difference;
+use crate::lent::Lent;
 use crate::report::{Difference, Stage, show, state_difference, state_text};
 use crate::sizes::Sizes;
 
@@ -19,7 +20,7 @@ pub fn walk(sizes: &Sizes) -> Result<u64, Difference> {
     let texts = sizes.walks * (TEXT_LENGTH * TELLING.len()) as u64;
     Stage::new("texts walked", sizes, texts).run(|random, case| {
         let case = case as usize;
-        let mut text = form(&generate::holdable(random).to_words());
+        let mut text = form(&generate::narrowed(&generate::holdable(random)).to_words());
         text[case / TELLING.len() % TEXT_LENGTH] = TELLING[case % TELLING.len()];
         compare_restore(&text, &other_words(random))
     })?;
@@ -38,10 +39,8 @@ fn other_words(random: &mut Random) -> Lent {
     if random.once_in(2) {
         return Lent::random(random);
     }
-    Lent {
-        hart: std::array::from_fn::<u64, HART_WORDS, _>(|_| random.word()),
-        map: std::array::from_fn::<u64, MAP_WORDS, _>(|_| random.word()),
-    }
+    let hart = std::array::from_fn::<u64, HART_WORDS, _>(|_| random.word());
+    Lent::new(hart, std::array::from_fn::<u64, MAP_WORDS, _>(|_| random.word()))
 }
 
 pub fn compare_restore(text: &[u8], lent: &Lent) -> Result<(), String> {
@@ -59,7 +58,7 @@ fn restore_difference(text: &[u8], lent: &Lent) -> Result<Lent, String> {
     let mut found = lent.clone();
     let call = capi::restore(text, &mut found.hart, &mut found.map);
     let (number, expected) = match restore(text) {
-        Ok((hart, map)) => (0, Lent { hart: hart.to_words(), map: map.to_words() }),
+        Ok((hart, map)) => (0, lent.left(&hart, &map)),
         Err(refusal) => (refusal.number(), lent.clone()),
     };
     if call != number {
@@ -72,15 +71,23 @@ fn restore_difference(text: &[u8], lent: &Lent) -> Result<Lent, String> {
     map_difference(&expected.map, &found.map, number == 0).map_or(Ok(found), Err)
 }
 
-/// States saved into buffers too short, just long enough, and longer.
-pub fn saved(sizes: &Sizes) -> Result<(), Difference> {
+/// States saved into buffers too short, just long enough, and longer. Gives how many
+/// have no text, which must be one in ten at least.
+pub fn saved(sizes: &Sizes) -> Result<u64, Difference> {
+    let mut without_text = 0;
     Stage::new("texts saved", sizes, sizes.texts).run(|random, _| {
         let hart = Lent::random(random).hart;
         let length = buffer_length(random);
         let filling = random.word();
         let buffer: Vec<u8> = (0..length).map(|place| (filling >> (place % 57)) as u8).collect();
-        compare_save(&hart, &buffer)
-    })
+        let refused = compare_save(&hart, &buffer)? == Refusal::NoText.number();
+        without_text += u64::from(refused);
+        Ok(())
+    })?;
+    if sizes.only.is_none() && sizes.texts >= 10_000 && without_text < sizes.texts / 10 {
+        return Err(Difference(format!("texts saved\ntoo few refused 12: {without_text}")));
+    }
+    Ok(without_text)
 }
 
 fn buffer_length(random: &mut Random) -> usize {
@@ -92,13 +99,14 @@ fn buffer_length(random: &mut Random) -> usize {
     }
 }
 
-pub fn compare_save(words: &[u64; HART_WORDS], buffer: &[u8]) -> Result<(), String> {
+/// One save on both sides. Gives 0, or the number of the refusal.
+pub fn compare_save(words: &[u64; HART_WORDS], buffer: &[u8]) -> Result<u64, String> {
     show(|| format!("saving\n{}into {} bytes", state_text(words), buffer.len()));
     let (mut expected, mut found) = (buffer.to_vec(), buffer.to_vec());
     let number = save(&Hart::from_words(words), &mut expected).map_or_else(Refusal::number, |()| 0);
     let call = capi::save(words, &mut found);
     if call == number && expected == found {
-        return Ok(());
+        return Ok(number);
     }
     let place = (0..buffer.len()).find(|&place| expected[place] != found[place]);
     Err(format!(

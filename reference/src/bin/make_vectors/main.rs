@@ -1,9 +1,10 @@
 //! `make_vectors FOLDER [SEED]`: writes stored vectors for replay, a folder
-//! for each case with `trace`, `expected` (standard output) and, where the
-//! replay does not start at reset, `start`.
+//! for each case with `trace`, `expected` (standard output), `start` where the
+//! replay does not start at reset, and `memory` where words are lent.
 
 mod broken;
 mod interrupts;
+mod paging;
 mod protection;
 mod registers;
 mod steps;
@@ -47,6 +48,7 @@ fn all(seed: u64) -> Vec<Vector> {
         traps::vectors(seed),
         interrupts::vectors(),
         protection::vectors(seed),
+        paging::vectors(),
         broken::vectors(),
     ]
     .concat()

@@ -1,10 +1,10 @@
 //! Every CSR number in M, the numbers of S and U in their modes, and accesses that
 //! hang on TVM and on the counter enables.
 
-use reference::csr::number::{MCOUNTEREN, MEPC, MSTATUS, SATP, SCOUNTEREN, SSTATUS};
+use reference::csr::number::{MCOUNTEREN, MEDELEG, MEPC, MSTATUS, SATP, SCOUNTEREN, SSTATUS};
 use reference::csr::present;
 use reference::random::Random;
-use reference::status::TVM;
+use reference::status::{SUM, TVM};
 use reference::{Hart, MACHINE, SUPERVISOR, USER, generate};
 
 use crate::steps::{CLEAR, ECALL, MRET, READ, SET, SRET, WRITE};
@@ -12,13 +12,18 @@ use crate::vector::Vector;
 
 const ALL_ENABLED: [u64; 2] = [5, 5];
 
+/// What gives the end state a text, in M.
+const HAVE_TEXT: [[u64; 3]; 3] =
+    [[WRITE, SATP, 0], [CLEAR, MSTATUS, SUM], [CLEAR, MEDELEG, 0xB000]];
+
 pub fn vectors(seed: u64) -> Vec<Vector> {
     let mut random = Random::new(seed);
     let mut vectors: Vec<Vector> = (0..4)
         .map(|quarter| {
             let first = quarter * 0x400;
-            let steps: Vec<[u64; 3]> =
+            let mut steps: Vec<[u64; 3]> =
                 (first..first + 0x400).map(|number| csr_step(&mut random, number)).collect();
+            steps.extend(HAVE_TEXT);
             let name = format!("csr-walk-machine-{first:03x}");
             Vector::of_steps(&name, None, &steps)
         })

@@ -2,7 +2,7 @@
 
 use reference::csr::number::MSTATUS;
 use reference::random::Random;
-use reference::{Hart, MACHINE, Map, SUPERVISOR, Step, USER, generate, step};
+use reference::{Hart, MACHINE, Map, Memory, SUPERVISOR, Step, USER, generate, step};
 
 use crate::steps::{
     ADVANCE, CLEAR, EBREAK, ECALL, ELAPSED, FETCH, MRET, RAISE, READ, SET, SRET, STORE, WFI, WRITE,
@@ -91,13 +91,13 @@ fn time() -> Vector {
 /// Random steps from a random state; arguments not used are 0, as a trace
 /// demands.
 fn any_steps(random: &mut Random) -> Vector {
-    let start = generate::holdable(random);
+    let start = generate::narrowed(&generate::holdable(random));
     let (mut hart, mut map) = (start, Map::reset());
     let steps: Vec<[u64; 3]> = (0..1500)
         .map(|_| {
             let words = generate::step(random, &hart, &map);
             let next = Step::from_words(words[0], words[1], words[2]).expect("a step there is");
-            step(&mut hart, &mut map, next);
+            step(&mut hart, &mut map, Memory::EMPTY, next);
             next.to_words()
         })
         .collect();

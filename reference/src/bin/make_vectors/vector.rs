@@ -4,18 +4,24 @@ use std::fs;
 use std::io;
 use std::path::Path;
 
-use reference::{Hart, form, replay, write_record};
+use reference::{Hart, Memory, form, read_memory, replay, write_memory, write_record};
 
 #[derive(Clone)]
 pub struct Vector {
     pub name: String,
     pub start: Option<Vec<u8>>,
+    pub memory: Option<Vec<u8>>,
     pub trace: Vec<u8>,
 }
 
 impl Vector {
     pub fn new(name: &str, start: Option<Vec<u8>>, trace: Vec<u8>) -> Vector {
-        Vector { name: name.into(), start, trace }
+        Vector { name: name.into(), start, memory: None, trace }
+    }
+
+    /// The same with words lent to its steps.
+    pub fn with_memory(self, memory: Memory) -> Vector {
+        Vector { memory: Some(write_memory(memory)), ..self }
     }
 
     /// A vector of whole records.
@@ -27,8 +33,10 @@ impl Vector {
     pub fn write(&self, folder: &Path) -> io::Result<()> {
         let folder = folder.join(&self.name);
         fs::create_dir_all(&folder)?;
-        if let Some(start) = &self.start {
-            fs::write(folder.join("start"), start)?;
+        for (file, text) in [("start", &self.start), ("memory", &self.memory)] {
+            if let Some(text) = text {
+                fs::write(folder.join(file), text)?;
+            }
         }
         fs::write(folder.join("trace"), &self.trace)?;
         fs::write(folder.join("expected"), self.expected()?)
@@ -36,7 +44,10 @@ impl Vector {
 
     fn expected(&self) -> io::Result<Vec<u8>> {
         let mut output = Vec::new();
-        replay(self.start.as_deref(), &mut &self.trace[..], &mut output)?;
+        let memory = self.memory.as_deref().map(|text| read_memory(text).expect("in the form"));
+        let (base, words) = memory.unwrap_or_default();
+        let memory = Memory { words: &words, base };
+        replay(self.start.as_deref(), memory, &mut &self.trace[..], &mut output)?;
         Ok(output)
     }
 }

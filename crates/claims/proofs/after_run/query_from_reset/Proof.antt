@@ -1,5 +1,6 @@
 use mathlib.Core.Path.{ap, _∙_}
 use borrow.Author.Needs.{needs}
+use Rattle.paging.specs.Memory.{memoryAt}
 use Rattle.hart.specs.declared.Mapped.{Mapped}
 use Rattle.hart.specs.Steps.{resetMapped}
 use Rattle.claims.specs.AfterRun.{stepsIn}
@@ -11,8 +12,8 @@ use Rattle.claims.proofs.after_run.query_from_reset.Tie as tie
 returns : tie.Need-returns
 returns c =
     let r = c .before .before .before in
-    let a = r .before .before .args in
-    let steps = stepsIn (a .steps .now) in
+    let a = r .before .before .before .args in
+    let steps = stepsIn (memoryAt (a .memory .now) (a .base)) (a .steps .now) in
     c .query-after .ensures
     ∙ ap (λ (m : Mapped). queryAfter m steps (a .mode) (a .access) (a .address) (a .size)) (r .reset .ensures)
     ∙ query-after resetMapped reset-sound steps (a .mode) (a .access) (a .address) (a .size)

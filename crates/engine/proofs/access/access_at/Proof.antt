@@ -1,4 +1,5 @@
 use mathlib.Core.Path.{refl}
+use Rattle.paging.specs.Memory.{memoryAt}
 use Rattle.engine.proofs.InPlace.{access-does, fault-does}
 use borrow.Author.Needs.{needs}
 use Rattle.engine.proofs.access.access_at.Statement.{statement}
@@ -7,12 +8,14 @@ use Rattle.engine.proofs.access.access_at.Tie as tie
 returns : tie.Need-returns
 returns c =
     let k = c .before .before .before in
-    let m = k .before in
+    let v = k .before .before in
+    let m = v .before .before in
     let r = m .before in
-    let p = r .before .before .before .before in
-    let b = p .before .before .before in
+    let p = r .before .before in
+    let b = p .before .before .before .before in
     let a = b .args in
-    access-does (a .words .now) (b .pre) (a .access) (a .address) (a .size) (r .load-registers .ensures) (p .load-pmp .ensures) (m .effective-mode .ensures) (k .check .ensures) (c .before .entry .given .1) (refl, refl)
+    access-does (a .words .now) (b .pre) (memoryAt (a .memory .now) (a .base)) (a .access) (a .address) (a .size) (r .load-registers .ensures)
+    (p .load-pmp .ensures) (v .load-satp .ensures) (m .effective-mode .ensures) (k .reach .ensures) (c .before .entry .given .1) (refl, refl)
 
 returns-2 : tie.Need-returns-2
 returns-2 c =
@@ -21,28 +24,33 @@ returns-2 c =
     let l = o .before in
     let q = l .before .before .before in
     let k = q .before .before in
-    let m = k .before in
+    let v = k .before .before in
+    let m = v .before .before in
     let r = m .before in
-    let p = r .before .before .before .before in
-    let b = p .before .before .before in
+    let p = r .before .before in
+    let b = p .before .before .before .before in
     let a = b .args in
-    fault-does (a .words .now) (b .pre) (a .access) (a .address) (a .size) (r .load-registers .ensures) (p .load-pmp .ensures) (m .effective-mode .ensures) (k .check .ensures) (q .cause .given .1) (l .load-registers2 .ensures) (o .raise-by .ensures) (t .leave .ensures .0) (t .leave .ensures .1)
+    fault-does (a .words .now) (b .pre) (memoryAt (a .memory .now) (a .base)) (a .access) (a .address) (a .size) (r .load-registers .ensures)
+    (p .load-pmp .ensures) (v .load-satp .ensures) (m .effective-mode .ensures) (k .reach .ensures) (q .cause .given .1) (l .load-registers2 .ensures)
+    (o .raise-by .ensures) (t .leave .ensures .0) (t .leave .ensures .1)
 
 returns-3 : tie.Need-returns-3
 returns-3 c =
     let k = c .before .before .before in
-    let m = k .before in
+    let v = k .before .before in
+    let m = v .before .before in
     let r = m .before in
-    let p = r .before .before .before .before in
-    let b = p .before .before .before in
+    let p = r .before .before in
+    let b = p .before .before .before .before in
     let a = b .args in
-    access-does (a .words .now) (b .pre) (a .access) (a .address) (a .size) (r .load-registers .ensures) (p .load-pmp .ensures) (m .effective-mode .ensures) (k .check .ensures) (c .before .number .given .1) (refl, refl)
+    access-does (a .words .now) (b .pre) (memoryAt (a .memory .now) (a .base)) (a .access) (a .address) (a .size) (r .load-registers .ensures)
+    (p .load-pmp .ensures) (v .load-satp .ensures) (m .effective-mode .ensures) (k .reach .ensures) (c .before .number .given .1) (refl, refl)
 
 leave-requires : tie.Need-leave-requires
 leave-requires c κs =
     let k = c .before .before .before .before .before .before .before in
-    let p = k .before .before .before .before .before .before in
-    p .before .before .before .pre
+    let p = k .before .before .before .before .before .before .before in
+    p .before .before .before .before .pre
 
 pub access-at-spec : {M : Type 1} → statement M
 access-at-spec =
@@ -51,6 +59,8 @@ access-at-spec =
     (λ c κs. search needs)
     (λ c κs. search needs)
     (λ c κs. search needs)
+    (λ c κs. search needs)
+    (λ c. search needs)
     (λ c κs. search needs)
     (λ c. search needs)
     (λ c. search needs)

@@ -1,5 +1,5 @@
 use mathlib.Core.Path.{_∙_}
-use Rattle.engine.proofs.InPlace.{number-refused, csr-illegal, csr-protection, csr-register}
+use Rattle.engine.proofs.InPlace.{number-refused, csr-illegal, csr-protection, csr-satp, csr-register}
 use borrow.Author.Needs.{needs}
 use Rattle.engine.proofs.csrs.step_csr.Statement.{statement}
 use Rattle.engine.proofs.csrs.step_csr.Tie as tie
@@ -41,11 +41,27 @@ returns-3 c =
 
 returns-4 : tie.Need-returns-4
 returns-4 c =
+    let t = c .before .before in
+    let z = t .before .before in
+    let i = z .before in
+    let q = i .before in
+    let f = q .before in
+    let g = f .before in
+    let r = g .before in
+    let e = r .before .before in
+    let b = e .before .before in
+    let a = b .args in
+    csr-satp (a .words .now) (b .pre) (a .operation) (a .number) (a .operand) (e .if1 .left) (r .load-registers .ensures) (g .is-illegal .ensures)
+    (f .if2 .left) (q .is-pmp .ensures) (i .if3 .left) (z .if4 .taken) (t .step-satp .ensures .0) (t .step-satp .ensures .1)
+
+returns-5 : tie.Need-returns-5
+returns-5 c =
     let x = c .before .before .before in
     let n = x .before .before in
     let d = n .before .before in
     let l = d .before in
-    let i = l .before .before in
+    let z = l .before .before in
+    let i = z .before in
     let q = i .before in
     let f = q .before in
     let g = f .before in
@@ -54,7 +70,7 @@ returns-4 c =
     let b = e .before .before in
     let a = b .args in
     csr-register (a .words .now) (b .pre) (a .operation) (a .number) (a .operand) (e .if1 .left) (r .load-registers .ensures) (g .is-illegal .ensures)
-    (f .if2 .left) (q .is-pmp .ensures) (i .if3 .left) (l .load-registers3 .ensures) (d .read .ensures) (n .next-pc .ensures) (x .operate .ensures) (c .apart3 .ensures)
+    (f .if2 .left) (q .is-pmp .ensures) (i .if3 .left) (z .if4 .left) (l .load-registers3 .ensures) (d .read .ensures) (n .next-pc .ensures) (x .operate .ensures) (c .apart3 .ensures)
 
 pub step-csr-spec : {M : Type 1} → statement M
 step-csr-spec =
@@ -75,6 +91,9 @@ step-csr-spec =
     (λ c. search needs)
     returns-3
     (λ c κs. search needs)
+    (λ c. search needs)
+    returns-4
+    (λ c κs. search needs)
     (λ c κs. search needs)
     (λ c. search needs)
     (λ c κs. search needs)
@@ -82,4 +101,4 @@ step-csr-spec =
     (λ c. search needs)
     (λ c κs. search needs)
     (λ c. search needs)
-    returns-4)
+    returns-5)

@@ -8,31 +8,36 @@ use borrow.Author.Needs.{needs}
 use Rattle.steps.specs.Number.{answerNumbers}
 use Rattle.steps.specs.Decode.{decoded, stepsOf, nameSteps}
 use Rattle.steps.proofs.NumberLaws.{Named, named}
+use Rattle.paging.specs.Memory.{Memory, memoryAt}
 use Rattle.state.specs.Hold.{canHold}
 use Rattle.state.specs.Words.{stateOf}
 use Rattle.state.proofs.SliceLaws.{all-loaded}
-use Rattle.engine.specs.Runs.{afterAll, answersOf, anyRemaps}
+use Rattle.engine.specs.Runs.{lent, afterAll, answersOf, anyRemaps}
 use Rattle.engine.proofs.RunLaws.{named-plain, held-next, state-next, remap-next, answers-next, state-end, remap-end, answers-end}
 use Rattle.engine.proofs.runs.run_steps.Statement.{statement}
 use Rattle.engine.proofs.runs.run_steps.Tie as tie
 
 abbrev Inv-loop : tie.InvT-loop
-Inv-loop words₀ steps answers₀ held₀ remap₀ i₀ place₀ words answers held remap i place =
-    (i ≤ length steps) × (length words ≡ 41) × (length answers ≡ length answers₀) × (nameSteps (drop i steps) ≡ true) × (held ≡ canHold (stateOf words))
-    × (afterAll (stateOf words) (stepsOf (drop i steps)) ≡ afterAll (stateOf words₀) (stepsOf steps))
-    × ((remap || anyRemaps (stateOf words) (stepsOf (drop i steps))) ≡ anyRemaps (stateOf words₀) (stepsOf steps))
-    × (sets answers place (answersOf (stateOf words) (stepsOf (drop i steps))) ≡ sets answers₀ 0 (answersOf (stateOf words₀) (stepsOf steps)))
+Inv-loop words₀ memory base steps answers₀ held₀ remap₀ i₀ place₀ words answers held remap i place =
+    (i ≤ length steps) × (length words ≡ 42) × (length answers ≡ length answers₀) × (nameSteps (drop i steps) ≡ true) × (held ≡ canHold (stateOf words))
+    × (afterAll (stateOf words) (lent (memoryAt memory base) (stepsOf (drop i steps))) ≡ afterAll (stateOf words₀) (lent (memoryAt memory base) (stepsOf steps)))
+    × ((remap || anyRemaps (stateOf words) (lent (memoryAt memory base) (stepsOf (drop i steps)))) ≡ anyRemaps (stateOf words₀) (lent (memoryAt memory base) (stepsOf steps)))
+    × (sets answers place (answersOf (stateOf words) (lent (memoryAt memory base) (stepsOf (drop i steps)))) ≡ sets answers₀ 0 (answersOf (stateOf words₀) (lent (memoryAt memory base) (stepsOf steps))))
     × (3 * place ≡ 4 * i)
 
 abbrev μ-loop : tie.MeasureT-loop
-μ-loop words₀ steps answers₀ held₀ remap₀ i₀ place₀ words answers held remap i place = length steps - i
+μ-loop words₀ memory base steps answers₀ held₀ remap₀ i₀ place₀ words answers held remap i place = length steps - i
 
 abbrev start : tie.At-loop Inv-loop μ-loop → tie.Start Inv-loop μ-loop
-start c = c .before .before .before .before .before .before
+start c = c .before .before .before .before .before .before .before
+
+-- the memory that is lent to all steps
+abbrev lends : tie.At-loop Inv-loop μ-loop → Memory
+lends c = memoryAt (start c .args .memory .now) (start c .args .base)
 
 loop-holds : tie.Need-loop-holds Inv-loop μ-loop
 loop-holds c =
-    let b = c .before .before .before .before .before in
+    let b = c .before .before .before .before .before .before in
     let p = b .pre in
     (search needs, p .0, refl, p .1, c .words-can-hold .ensures ∙ ap canHold (all-loaded (b .args .words .now) (p .0)), refl, refl, refl, refl)
 
@@ -42,7 +47,7 @@ at c = named (start (c .before) .args .steps .now) (c .before .loop .i) (c .loop
 
 -- a slice has less than 2^63 bytes, so that the places of the answers are numbers of 64 bits
 short : (c : tie.In-loop Inv-loop μ-loop) → length (start (c .before) .args .steps .now) * 8 < 2 ^ 63
-short c = start (c .before) .good .1 .0 .1
+short c = start (c .before) .good .1 .1 .1 .0 .1
 
 add-take-named : tie.Need-add-take-named Inv-loop μ-loop
 add-take-named c = omega (arith, at (c .before .before) .room)
@@ -78,7 +83,7 @@ put-answer-requires c κs =
     let i = inside t in
     let l = i .before .loop in
     let v = start (i .before) .args .steps .now in (
-      named-plain (l .held) (stateOf (l .words)) (decoded (getD v (l .i) 0) (getD v (l .i + 1) 0) (getD v (l .i + 2) 0)) (t .take-named .ensures .0),
+      named-plain (l .held) (stateOf (l .words)) (lends (i .before)) (decoded (getD v (l .i) 0) (getD v (l .i + 1) 0) (getD v (l .i + 2) 0)) (t .take-named .ensures .0),
       omega (arith, at i .room, short i, l .inv .8),
     )
 
@@ -100,6 +105,7 @@ loop-again c =
     let i = inside t in
     let l = i .before .loop in
     let v = start (i .before) .args .steps .now in
+    let m = lends (i .before) in
     let s = stateOf (l .words) in
     let n = at i in
     let e = t .take-named .ensures .0 in
@@ -109,10 +115,10 @@ loop-again c =
       search needs,
       ap length (p .put-answer .ensures) ∙ length-sets (l .answers) (l .place) (answerNumbers (t .take-named .result .answer)) ∙ l .inv .2,
       n .rest,
-      held-next v (l .i) (l .held) s _ (t .take-named .result) n h e f,
-      state-next v (l .i) (l .held) s _ (t .take-named .result) n h e f ∙ l .inv .5,
-      remap-next v (l .i) (l .held) s _ (t .take-named .result) n h e f (l .remap) ∙ l .inv .6,
-      answers-next v (l .i) (l .held) s _ (t .take-named .result) n h e f (l .place) (l .answers) _ (p .put-answer .ensures) ∙ l .inv .7,
+      held-next v (l .i) m (l .held) s _ (t .take-named .result) n h e f,
+      state-next v (l .i) m (l .held) s _ (t .take-named .result) n h e f ∙ l .inv .5,
+      remap-next v (l .i) m (l .held) s _ (t .take-named .result) n h e f (l .remap) ∙ l .inv .6,
+      answers-next v (l .i) m (l .held) s _ (t .take-named .result) n h e f (l .place) (l .answers) _ (p .put-answer .ensures) ∙ l .inv .7,
       omega (arith, l .inv .8),
     )
 
@@ -121,9 +127,10 @@ returns c =
     let l = c .before .loop in
     let v = start (c .before) .args .steps .now in
     let d = c .loop-test .left in
+    let m = lends (c .before) in
     let s = stateOf (l .words) in (
-      remap-end v (l .i) s d (l .remap) ∙ l .inv .6,
-      (state-end v (l .i) s d ∙ l .inv .5, answers-end v (l .i) s d (l .place) (l .answers) ∙ l .inv .7),
+      remap-end v (l .i) m s d (l .remap) ∙ l .inv .6,
+      (state-end v (l .i) m s d ∙ l .inv .5, answers-end v (l .i) m s d (l .place) (l .answers) ∙ l .inv .7),
     )
 
 pub run-steps-spec : {M : Type 1} → statement M

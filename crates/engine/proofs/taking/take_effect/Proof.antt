@@ -1,4 +1,5 @@
 use mathlib.Core.Path.{refl, ap, _∙_}
+use Rattle.paging.specs.Memory.{memoryAt}
 use Rattle.state.specs.declared.State.{State}
 use Rattle.state.specs.Hold.{resetState}
 use Rattle.state.specs.Words.{stateOf}
@@ -16,7 +17,7 @@ returns c =
     let t = c .before .before in
     let r = t .before .before in
     let k = r .before in
-    let b = k .before .before .before in
+    let b = k .before .before .before .before in
     rw (k .enum-told .given .1) (
       refl,
       ap stateOf (t .store .ensures ∙ ap (λ (s : State). stored s (b .args .words .now)) (r .reset .ensures) ∙ all-stored (b .args .words .now) (b .pre) resetState)
@@ -30,16 +31,18 @@ returns-3 : tie.Need-returns-3
 returns-3 c =
     let t = c .before .before in
     let k = t .before .before .before in
-    let s = stateOf (k .before .before .before .args .words .now) in
+    let a = k .before .before .before .before .args in
+    let s = stateOf (a .words .now) in
+    let m = memoryAt (a .memory .now) (a .base) in
     let g = k .step2 .given .0 in
     rw (k .step2 .given .1)
-    (apart-tells s (accessStep s (g .0) (g .1 .0) (g .1 .1 .0)) (access-pmp s (g .0) (g .1 .0) (g .1 .1 .0)) (t .step-access .ensures))
+    (apart-tells s (accessStep s m (g .0) (g .1 .0) (g .1 .1 .0)) (access-pmp s m (g .0) (g .1 .0) (g .1 .1 .0)) (t .step-access .ensures))
 
 returns-4 : tie.Need-returns-4
 returns-4 c =
     let t = c .before .before in
     let k = t .before .before .before in
-    let s = stateOf (k .before .before .before .args .words .now) in
+    let s = stateOf (k .before .before .before .before .args .words .now) in
     rw (k .step3 .given .1) (apart-tells s (eventEffect s (k .step3 .given .0 .0)) refl (t .step-event .ensures))
 
 pub take-effect-spec : {M : Type 1} → statement M

@@ -16,11 +16,11 @@ returns-2 c = rw (c .before .before .match .keys2) (span-same (c .before .word-s
 
 returns-3 : tie.Need-returns-3
 unfolding spanOf
-returns-3 c = rw (c .before .before .match .keys3) (span-same (c .before .word-start3 .ensures) (omega arith))
+returns-3 c = rw (c .before .match .keys3) (span-same (omega arith) (omega arith))
 
 returns-4 : tie.Need-returns-4
 unfolding spanOf
-returns-4 c = rw (c .before .before .match .keys3) (span-same (c .before .word-start3 .ensures) (omega arith))
+returns-4 c = rw (c .before .match .keys3) (span-same (omega arith) (omega arith))
 
 returns-5 : tie.Need-returns-5
 unfolding spanOf
@@ -34,7 +34,7 @@ entry-span-spec =
     (tie.spec
     (λ c κs. search needs)
     (λ c κs. search needs)
-    (λ c κs. search needs)
+    (λ c. search needs)
     (λ c. search needs)
     (λ c κs. search needs)
     returns

@@ -13,7 +13,7 @@ use Rattle.pmp.specs.Search.{anyByte, lowest}
 use Rattle.pmp.specs.Entry.{spanOf, fieldA, addressBefore, entrySpan, contains, matches}
 use Rattle.pmp.specs.Rule.{lowestMatch}
 use Rattle.pmp.proofs.SearchLaws.{any-start, any-next, any-found, any-end, lowest-next, lowest-found, lowest-end}
-use Rattle.pmp.proofs.EntryLaws.{contains-none}
+use Rattle.pmp.proofs.EntryLaws.{overlaps, contains-none}
 use Rattle.pmp.proofs.search.lowest_match.Statement.{statement}
 use Rattle.pmp.proofs.search.lowest_match.Tie as tie
 
@@ -44,40 +44,49 @@ loop-holds : tie.Need-loop-holds Inv-loop μ-loop Inv-search μ-search
 loop-holds c = (omega arith, any-start _ _ _)
 
 -- the span that is looked at is the entry's
-span-is : (c : tie.After-entry-span Inv-loop μ-loop Inv-search μ-search) → let e = c .before .before in let a = e .before .args in
-    c .entry-span .result ≡ entrySpan (a .t1) (a .t2) (e .search .entry)
-span-is c =
-    let e = c .before .before in
+own-span : (c : tie.Else1 Inv-loop μ-loop Inv-search μ-search) → let e = c .before in let a = e .before .args in
+    spanOf (fieldA (getD (a .t1) (e .search .entry) 0)) (getD (a .t2) (e .search .entry) 0) (e .search .before)
+    ≡ entrySpan (a .t1) (a .t2) (e .search .entry)
+own-span c =
+    let e = c .before in
     let a = e .before .args in
-    c .entry-span .ensures
-    ∙ ap (spanOf (fieldA (getD (a .t1) (e .search .entry) 0)) (getD (a .t2) (e .search .entry) 0)) (e .search .inv .1)
+    ap (spanOf (fieldA (getD (a .t1) (e .search .entry) 0)) (getD (a .t2) (e .search .entry) 0)) (e .search .inv .1)
+
+span-is : (c : tie.Then2 Inv-loop μ-loop Inv-search μ-search) → let e = c .before .before .before in let a = e .before .args in
+    c .before .overlapping .result .span ≡ entrySpan (a .t1) (a .t2) (e .search .entry)
+span-is c = c .before .overlapping .ensures .1 (c .if2 .taken) ∙ own-span (c .before .before)
 
 loop-again : tie.Need-loop-again Inv-loop μ-loop Inv-search μ-search
 loop-again c =
     let l = c .before .before .before .loop in
-    let s = c .before .before .before .before .before .before .before in
-    let a = s .before .before .before .args in (
+    let t = c .before .before .before .before .before in
+    let a = t .before .before .before .before .args in (
       omega arith,
       l .inv .1
-          ∙ any-next (contains (s .entry-span .result)) (a .size) (a .address) (l .byte) (c .before .before .loop-test .taken)
+          ∙ any-next (contains (t .before .overlapping .result .span)) (a .size) (a .address) (l .byte) (c .before .before .loop-test .taken)
           (sym (c .before .contains .ensures) ∙ c .if3 .left),
     )
 
 search-again : tie.Need-search-again Inv-loop μ-loop Inv-search μ-search
 search-again c =
-    let s = c .before .before .before in
-    let e = s .before .before .search in
-    let a = s .before .before .before .args in
-    let missed : anyByte (contains (s .entry-span .result)) (a .size) (a .address) ≡ false =
+    let t = c .before in
+    let e = t .before .before .search in
+    let a = t .before .before .before .args in
+    let own = own-span (t .before) in
+    let spans = entrySpan (a .t1) (a .t2) in
+    let missed : anyByte (contains (spans (e .entry))) (a .size) (a .address) ≡ false =
     ⊎-elim
-    (λ w. w .1 .inv .1 ∙ any-end (contains (s .entry-span .result)) (a .size) (a .address) (w .1 .byte) (w .2 .left))
-    (λ w. contains-none (s .entry-span .result) (a .size) (a .address) (w .left))
+    (λ w.
+    sym (ap (λ (r : Span). anyByte (contains r) (a .size) (a .address)) (t .overlapping .ensures .1 (w .0 .taken) ∙ own))
+    ∙ w .2 .inv .1
+    ∙ any-end (contains (t .overlapping .result .span)) (a .size) (a .address) (w .2 .byte) (w .3 .left))
+    (λ w.
+    contains-none (spans (e .entry)) (a .size) (a .address)
+    (sym (t .overlapping .ensures .0 ∙ ap (λ (r : Span). overlaps r (a .address) (a .size)) own) ∙ w .left))
     (c .if2 .came) in (
       omega arith,
       rw add-one,
-      e .inv .2
-          ∙ lowest-next (some (entrySpan (a .t1) (a .t2)) (a .address) (a .size)) 16 (e .entry) (omega arith)
-          (sym (ap (λ (r : Span). anyByte (contains r) (a .size) (a .address)) (span-is s)) ∙ missed),
+      e .inv .2 ∙ lowest-next (some spans (a .address) (a .size)) 16 (e .entry) (omega arith) missed,
     )
 
 returns : tie.Need-returns Inv-loop μ-loop Inv-search μ-search
@@ -89,17 +98,17 @@ returns c =
 returns-2 : tie.Need-returns-2 Inv-loop μ-loop Inv-search μ-search
 returns-2 c =
     let l = c .before .before .before .loop in
-    let s = c .before .before .before .before .before .before .before in
-    let e = s .before .before .search in
-    let a = s .before .before .before .args in (
+    let t = c .before .before .before .before .before in
+    let e = t .before .before .before .search in
+    let a = t .before .before .before .before .args in (
       sym
           (e .inv .2
           ∙ lowest-found (some (entrySpan (a .t1) (a .t2)) (a .address) (a .size)) 16 (e .entry) (omega arith)
-          (sym (ap (λ (r : Span). anyByte (contains r) (a .size) (a .address)) (span-is s))
+          (sym (ap (λ (r : Span). anyByte (contains r) (a .size) (a .address)) (span-is t))
           ∙ l .inv .1
-          ∙ any-found (contains (s .entry-span .result)) (a .size) (a .address) (l .byte) (c .before .before .loop-test .taken)
+          ∙ any-found (contains (t .before .overlapping .result .span)) (a .size) (a .address) (l .byte) (c .before .before .loop-test .taken)
           (sym (c .before .contains .ensures) ∙ c .if3 .taken))),
-      λ h. (refl, span-is s),
+      λ h. (refl, span-is t),
     )
 
 pub lowest-match-spec : {M : Type 1} → statement M
@@ -115,7 +124,6 @@ lowest-match-spec =
     (λ c. search needs)
     (λ c. search needs)
     (λ c κs. search needs)
-    (λ c. search needs)
     loop-holds
     (λ c. search needs)
     (λ c κs. search needs)

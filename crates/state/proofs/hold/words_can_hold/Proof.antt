@@ -9,11 +9,12 @@ returns c = sym (other-length-holds (c .before .before .args .words .now) (c .if
 
 returns-2 : tie.Need-returns-2
 returns-2 c =
-    let p = c .before .before in
+    let a = c .before .before in
+    let p = a .before .before in
     let r = p .before .before .before in
     let t = r .before in
     let i = t .before in
-    rw (r .registers-can-hold .ensures, t .registers-at .ensures, p .configs-can-hold .ensures, c .addresses-can-hold .ensures)
+    rw (r .registers-can-hold .ensures, t .registers-at .ensures, p .configs-can-hold .ensures, a .addresses-can-hold .ensures, c .satp-can-hold .ensures)
     (words-hold (i .before .before .args .words .now) (i .if1 .left))
 
 pub words-can-hold-spec : {M : Type 1} → statement M
@@ -28,6 +29,8 @@ words-can-hold-spec =
     (λ c κs. search needs)
     (λ c. search needs)
     (λ c. search needs)
+    (λ c. search needs)
+    (λ c κs. search needs)
     (λ c. search needs)
     (λ c κs. search needs)
     returns-2)
