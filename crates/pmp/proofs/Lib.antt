@@ -1,6 +1,7 @@
 -- Laws of the definitions, which the functions' proofs and other crates cite.
 pub mod SearchLaws
 pub mod EntryLaws
+pub mod GrainLaws
 pub mod RuleLaws
 pub mod Owner
 pub mod Answered

@@ -2,8 +2,8 @@
 use crate::Span;
 use crate::TOP;
 ghost use mathlib.Core.Path.{_≡_};
-ghost use Prim.Native.Nat.{_*_, min};
-ghost use Rattle.pmp.specs.Entry.{top, trailingOnes, napot, spanOf, fieldA, locked, contains};
+ghost use Prim.Native.Nat.{_*_, _<_, min};
+ghost use Rattle.pmp.specs.Entry.{top, trailingOnes, napot, spanOf, fieldA, knownGrain, lowZeros, lowOnes, addressRead, boundRead, spanRead, locked, contains};
 
 // 2^54: the first word past physical memory.
 const TOP_WORD: u64 = 0x40000000000000;
@@ -45,8 +45,8 @@ fn napot_span(addr: u64) -> Span
     }
 }
 
-// The bytes that an entry matches, from its configuration byte, its address register and the one before.
-pub fn entry_span(cfg: u8, addr: u64, before: u64) -> Span
+// The bytes of an entry, from its configuration byte, what its address register reads and TOR's lower bound.
+fn span_of(cfg: u8, addr: u64, before: u64) -> Span
     ensures { λ r. ⌜ r ≡ spanOf (fieldA cfg) addr before ⌝ }
 {
     let a = cfg / 8 % 4;
@@ -69,6 +69,60 @@ pub fn entry_span(cfg: u8, addr: u64, before: u64) -> Span
         }
         _ => napot_span(addr),
     }
+}
+
+// The grain as it counts: one above 10 is 0.
+pub fn known_grain(grain: u64) -> u64
+    ensures { λ r. ⌜ r ≡ knownGrain grain ⌝ }
+    ensures { λ r. ⌜ r < 11 ⌝ }
+{
+    if grain < 11 { grain } else { 0 }
+}
+
+// A word with its lowest bits zeros.
+fn low_zeros(count: u64, word: u64) -> u64
+    requires { ⌜ count < 11 ⌝ }
+    ensures { λ r. ⌜ r ≡ lowZeros count word ⌝ }
+{
+    (word >> count) << count
+}
+
+// A word with its lowest bits ones.
+fn low_ones(count: u64, word: u64) -> u64
+    requires { ⌜ count < 11 ⌝ }
+    ensures { λ r. ⌜ r ≡ lowOnes count word ⌝ }
+{
+    low_zeros(count, word) + ((1u64 << count) - 1)
+}
+
+// TOR's lower bound, from the address register before.
+pub(crate) fn bound_read(grain: u64, before: u64) -> u64
+    ensures { λ r. ⌜ r ≡ boundRead grain before ⌝ }
+{
+    low_zeros(known_grain(grain), before)
+}
+
+// What an address register reads, by the A field of its entry.
+pub fn address_read(grain: u64, cfg: u8, addr: u64) -> u64
+    ensures { λ r. ⌜ r ≡ addressRead grain (fieldA cfg) addr ⌝ }
+{
+    let count = known_grain(grain);
+    if cfg / 8 % 4 < 2 {
+        return low_zeros(count, addr);
+    }
+    if count == 0 {
+        return addr;
+    }
+    low_ones(count - 1, addr)
+}
+
+// The bytes that an entry matches, from its configuration byte, its address register and the one before.
+pub fn entry_span(grain: u64, cfg: u8, addr: u64, before: u64) -> Span
+    ensures { λ r. ⌜ r ≡ spanRead grain (fieldA cfg) addr before ⌝ }
+{
+    let read = address_read(grain, cfg, addr);
+    let bound = bound_read(grain, before);
+    span_of(cfg, read, bound)
 }
 
 // Whether a byte lies in the span.

@@ -1,6 +1,8 @@
 // The lowest entry that matches any byte of an access, and whether it matches all.
 use crate::Found;
 use crate::Span;
+use crate::entry::address_read;
+use crate::entry::bound_read;
 use crate::entry::contains;
 use crate::entry::entry_span;
 ghost use mathlib.Core.Path.{_≡_};
@@ -9,7 +11,7 @@ ghost use lib.Dec.{ltb};
 ghost use Prim.Native.Nat.{_+_, _≤_, _<_};
 ghost use lib.ListN.{getD};
 ghost use Rattle.pmp.specs.Search.{everyByte};
-ghost use Rattle.pmp.specs.Entry.{top, spanOf, fieldA, entrySpan, contains};
+ghost use Rattle.pmp.specs.Entry.{top, spanRead, fieldA, entrySpan, contains};
 ghost use Rattle.pmp.specs.Rule.{lowestMatch};
 
 // The bytes of an entry, where some of those from its first to its last are the access's too.
@@ -28,10 +30,17 @@ fn apart() -> Overlap
 }
 
 // TOR and NA4 are compared by words, so that their bytes are formed only where they are needed.
-fn overlapping(cfg: u8, addr: u64, before: u64, address: u64, size: u64) -> Overlap
+fn overlapping(
+    grain: u64,
+    cfg: u8,
+    addr: u64,
+    before: u64,
+    address: u64,
+    size: u64,
+) -> Overlap
     requires { ⌜ (0 < size) × (address + size ≤ top) ⌝ }
-    ensures { λ r. ⌜ r .some ≡ (ltb address (spanOf (fieldA cfg) addr before .high) && ltb (spanOf (fieldA cfg) addr before .low) (address + size)) ⌝ }
-    ensures { λ r. ⌜ (r .some ≡ true → r .span ≡ spanOf (fieldA cfg) addr before) ⌝ }
+    ensures { λ r. ⌜ r .some ≡ (ltb address (spanRead grain (fieldA cfg) addr before .high) && ltb (spanRead grain (fieldA cfg) addr before .low) (address + size)) ⌝ }
+    ensures { λ r. ⌜ (r .some ≡ true → r .span ≡ spanRead grain (fieldA cfg) addr before) ⌝ }
 {
     let first = address / 4;
     let end = (address + size + 3) / 4;
@@ -40,30 +49,31 @@ fn overlapping(cfg: u8, addr: u64, before: u64, address: u64, size: u64) -> Over
         if a == 0 {
             return apart();
         }
-        if addr <= first {
+        if address_read(grain, cfg, addr) <= first {
             return apart();
         }
-        if end <= before {
+        if end <= bound_read(grain, before) {
             return apart();
         }
         return Overlap {
             some: true,
-            span: entry_span(cfg, addr, before),
+            span: entry_span(grain, cfg, addr, before),
         };
     }
     if a == 2 {
-        if addr < first {
+        let word = address_read(grain, cfg, addr);
+        if word < first {
             return apart();
         }
-        if end <= addr {
+        if end <= word {
             return apart();
         }
         return Overlap {
             some: true,
-            span: entry_span(cfg, addr, before),
+            span: entry_span(grain, cfg, addr, before),
         };
     }
-    let span = entry_span(cfg, addr, before);
+    let span = entry_span(grain, cfg, addr, before);
     Overlap {
         some: (address < span.high) & (span.low < address + size),
         span,
@@ -71,10 +81,16 @@ fn overlapping(cfg: u8, addr: u64, before: u64, address: u64, size: u64) -> Over
 }
 
 // The lowest entry that matches any byte of the access. It is told with its byte and its span, so that neither is looked up again.
-pub(crate) fn lowest_match(cfgs: [u8; 16], addrs: [u64; 16], address: u64, size: u64) -> Found
+pub(crate) fn lowest_match(
+    grain: u64,
+    cfgs: [u8; 16],
+    addrs: [u64; 16],
+    address: u64,
+    size: u64,
+) -> Found
     requires { ⌜ (0 < size) × (address + size ≤ top) ⌝ }
-    ensures { λ r. ⌜ r .entry ≡ lowestMatch (entrySpan cfgs addrs) address size ⌝ }
-    ensures { λ r. ⌜ (r .entry < 16 → (r .cfg ≡ getD cfgs (r .entry) 0) × (r .span ≡ entrySpan cfgs addrs (r .entry))) ⌝ }
+    ensures { λ r. ⌜ r .entry ≡ lowestMatch (entrySpan grain cfgs addrs) address size ⌝ }
+    ensures { λ r. ⌜ (r .entry < 16 → (r .cfg ≡ getD cfgs (r .entry) 0) × (r .span ≡ entrySpan grain cfgs addrs (r .entry))) ⌝ }
 {
     let mut entry = 0;
     let mut before = 0;
@@ -89,7 +105,7 @@ pub(crate) fn lowest_match(cfgs: [u8; 16], addrs: [u64; 16], address: u64, size:
         let addr = addrs[entry];
         let cfg = cfgs[entry];
         // Where no byte of the access can be the entry's, none is looked at.
-        let overlap = overlapping(cfg, addr, before, address, size);
+        let overlap = overlapping(grain, cfg, addr, before, address, size);
         if overlap.some {
             let span = overlap.span;
             let mut byte = 0;
