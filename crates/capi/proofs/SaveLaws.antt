@@ -28,11 +28,11 @@ use Rattle.capi.specs.Calls.{hartOf, fits, misfit, saveResult, savedText
 use Rattle.capi.proofs.CallLaws.{fitting}
 
 module _ (hart text : List ℕ) where
-  pub not-saved : (length hart ≡ 42 → ⊥) → (misfit ≡ saveResult hart text) × (text ≡ savedText hart text)
+  pub not-saved : (length hart ≡ 43 → ⊥) → (misfit ≡ saveResult hart text) × (text ≡ savedText hart text)
   unfolding saveResult savedText
-  not-saved n = (rw (ne-eqb (length hart) 42 n), rw (ne-eqb (length hart) 42 n))
+  not-saved n = (rw (ne-eqb (length hart) 43 n), rw (ne-eqb (length hart) 43 n))
 
-  module _ (e : length hart ≡ 42) {s : State} (es : s ≡ loaded hart) where
+  module _ (e : length hart ≡ 43) {s : State} (es : s ≡ loaded hart) where
     hart-is : hartWith s ≡ hartOf hart
     hart-is = ap (λ (x : State). hartWith x) (es ∙ all-loaded hart e)
 
@@ -93,7 +93,7 @@ module _ (text hart map : List ℕ) where
   unfolding restoreResult restoredHart restoredMap
   not-restored e = (rw e, (rw e, rw e))
 
-  module _ (t : fits hart map ≡ true) (words : Words 42 hart) (g : Hart) (empty : Map) {s : Stepped} (e : s ≡ restored g empty text) {r : ℕ}
+  module _ (t : fits hart map ≡ true) (words : Words 43 hart) (g : Hart) (empty : Map) {s : Stepped} (e : s ≡ restored g empty text) {r : ℕ}
       (f : r ≡ refusalOf (s .answer)) where
     given-number : r ≡ refusalOf (restored g empty text .answer)
     given-number = f ∙ ap (λ (x : Stepped). refusalOf (x .answer)) e

@@ -22,13 +22,13 @@ use Rattle.hart.specs.Runs.{leftBy, answersBy}
 use Rattle.hart.specs.Queries.{queryAnswer}
 use Rattle.hart.specs.Saved.{savedAnswer, savedBuffer, restored}
 
--- the hart of 42 words: those of the saved text in its order, and satp
+-- the hart of 43 words: those of the saved text in its order, and satp
 abbrev pub hartOf : List ℕ → Hart
 hartOf words = hartWith (stateOf words)
 
--- a hart's slice has 42 words and a map's 100
+-- a hart's slice has 43 words and a map's 100
 abbrev pub fits : List ℕ → List ℕ → Bool
-fits hart map = eqb (length hart) 42 && eqb (length map) 100
+fits hart map = eqb (length hart) 43 && eqb (length map) 100
 
 -- ---- steps
 
@@ -95,10 +95,10 @@ misfit = 2 ^ 64 - 1
 
 -- 0, or refusal 3, then 6, then 12
 unfoldable pub saveResult : List ℕ → List ℕ → ℕ
-saveResult hart text = cond (eqb (length hart) 42) (refusalOf (savedAnswer (hartOf hart) text)) misfit
+saveResult hart text = cond (eqb (length hart) 43) (refusalOf (savedAnswer (hartOf hart) text)) misfit
 
 unfoldable pub savedText : List ℕ → List ℕ → List ℕ
-savedText hart text = cond (eqb (length hart) 42) (savedBuffer (hartOf hart) text) text
+savedText hart text = cond (eqb (length hart) 43) (savedBuffer (hartOf hart) text) text
 
 -- what reading a text back leaves
 abbrev pub readBack : List ℕ → List ℕ → List ℕ → Stepped

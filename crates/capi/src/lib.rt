@@ -1,4 +1,4 @@
-// The interface for C: harts, maps, steps and answers as 42, 100, three and four words. A call whose slices have another length changes nothing. A memory
+// The interface for C: harts, maps, steps and answers as 43, 100, three and four words. A call whose slices have another length changes nothing. A memory
 // of page tables is words that stand at a physical address; it may have any length.
 mod maps;
 mod query;
@@ -14,9 +14,9 @@ ghost use Rattle.paging.specs.Memory.{memoryAt};
 ghost use Rattle.capi.specs.Calls.{stepCall, runCall, queryResult, queryAnswered, saveResult, savedText, restoreResult, restoredHart, restoredMap};
 
 fn fit(hart: usize, map: usize) -> bool
-    ensures { λ r. ⌜ r ≡ (eqb hart 42 && eqb map 100) ⌝ }
+    ensures { λ r. ⌜ r ≡ (eqb hart 43 && eqb map 100) ⌝ }
 {
-    (hart == 42) & (map == 100)
+    (hart == 43) & (map == 100)
 }
 
 fn queryable(mode: u64, kind: u64) -> bool
@@ -107,7 +107,7 @@ pub extern "C" fn tegrwyllt_save(hart: &[u64], text: &mut [u8]) -> u64
     ensures { λ r. ⌜ r ≡ saveResult (now (hart .entry)) (now (text .entry)) ⌝ }
     ensures { λ _. ⌜ now (text .exit) ≡ savedText (now (hart .entry)) (now (text .entry)) ⌝ }
 {
-    if hart.len() != 42 {
+    if hart.len() != 43 {
         return MISFIT;
     }
     let given = Hart {

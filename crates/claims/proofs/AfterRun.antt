@@ -34,7 +34,7 @@ use Rattle.claims.proofs.Faithfulness.{back, text-sound, query-after}
 abbrev Leaves : State → List Lent → Ran → Type 0
 Leaves s steps r = (r .state ≡ afterAll s steps) × (r .remap ≡ anyRemaps s steps)
 
-words-count : (s : State) → eqb (length (wordsOf s)) 42 ≡ true
+words-count : (s : State) → eqb (length (wordsOf s)) 43 ≡ true
 unfolding wordsOf elements
 words-count s = refl
 

@@ -19,8 +19,8 @@ returns c =
 fitted : (c : tie.Else1) → let a = c .before .before .before .before .before .args in fits (a .hart .now) (a .map .now) ≡ true
 fitted c = sym (c .before .fit .ensures) ∙ not-false _ (c .if1 .left)
 
--- the hart's slice holds 42 words
-words : (c : tie.Else1) → let a = c .before .before .before .before .before .args in Words 42 (a .hart .now)
+-- the hart's slice holds 43 words
+words : (c : tie.Else1) → let a = c .before .before .before .before .before .args in Words 43 (a .hart .now)
 words c =
     let a = c .before .before .before .before .before .args in
     let k = c .before .before .before in
