@@ -11,7 +11,7 @@ ghost use mathlib.Core.Bool.{_&&_};
 ghost use lib.Dec.{eqb, leb};
 ghost use Rattle.pmp.specs.Number.{isMode};
 ghost use Rattle.paging.specs.Memory.{memoryAt};
-ghost use Rattle.capi.specs.Calls.{stepCall, runCall, queryResult, queryAnswered, saveResult, savedText, restoreResult, restoredHart, restoredMap};
+ghost use Rattle.capi.specs.Calls.{makeResult, madeHart, madeMap, stepCall, runCall, queryResult, queryAnswered, saveResult, savedText, restoreResult, restoredHart, restoredMap};
 
 fn fit(hart: usize, map: usize) -> bool
     ensures { λ r. ⌜ r ≡ (eqb hart 43 && eqb map 100) ⌝ }
@@ -23,6 +23,25 @@ fn queryable(mode: u64, kind: u64) -> bool
     ensures { λ r. ⌜ r ≡ (isMode mode && leb kind 2) ⌝ }
 {
     pmp::is_mode(mode) & (kind <= 2)
+}
+
+// Makes a hart as after reset, with a grain, and its map. 1, or 0 where a length is another.
+#[no_mangle]
+pub extern "C" fn tegrwyllt_make(grain: u64, hart: &mut [u64], map: &mut [u64]) -> u64
+    ensures { λ r. ⌜ r ≡ makeResult (now (hart .entry)) (now (map .entry)) ⌝ }
+    ensures { λ _. ⌜ now (hart .exit) ≡ madeHart grain (now (hart .entry)) (now (map .entry)) ⌝ }
+    ensures { λ _. ⌜ now (map .exit) ≡ madeMap grain (now (hart .entry)) (now (map .entry)) ⌝ }
+{
+    if !fit(hart.len(), map.len()) {
+        return 0;
+    }
+    let made = Hart::reset(grain);
+    let fresh = made.hart;
+    let state = fresh.state;
+    state::store(state, hart);
+    let whole = made.map;
+    maps::store_map(whole, map);
+    1
 }
 
 // One step: its number, 0 to 17, and its arguments. 1, or 0 where a length or the number is another.
@@ -128,7 +147,7 @@ pub extern "C" fn tegrwyllt_restore(text: &[u8], hart: &mut [u64], map: &mut [u6
         return MISFIT;
     }
     let given = Hart {
-        state: state::reset(),
+        state: state::reset(0),
     };
     let empty = Map {
         count: 0,

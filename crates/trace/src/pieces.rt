@@ -37,7 +37,7 @@ impl Session {
     pub fn from_reset() -> Session
         ensures { λ r. ⌜ r ≡ resetSession ⌝ }
     {
-        let reset = Hart::reset();
+        let reset = Hart::reset(0);
         let hart = reset.hart;
         let map = reset.map;
         session_from(hart, map, 0)
@@ -47,7 +47,7 @@ impl Session {
     pub fn from_text(text: &[u8]) -> Session
         ensures { λ r. ⌜ r ≡ textSession (now (text .entry)) ⌝ }
     {
-        let reset = Hart::reset();
+        let reset = Hart::reset(0);
         let before = reset.hart;
         let given = reset.map;
         let read = before.restore(given, text);
