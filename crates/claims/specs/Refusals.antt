@@ -92,10 +92,10 @@ queryRefusal s map address size =
     (some 1))
     (some 3)
 
--- satp or SUM, bit 18 of mstatus, is not 0, or medeleg has a bit outside 0x3FF
+-- satp, the grain or SUM, bit 18 of mstatus, is not 0, or medeleg has a bit outside 0x3FF
 abbrev pub textless : State → Bool
 textless s =
-    not (eqb (s .satp) 0 && (not (testBit (s .registers .mstatus) 18) && eqb (bitAnd (s .registers .medeleg) 0x3FF) (s .registers .medeleg)))
+    not ((eqb (s .satp) 0 && eqb (s .pmp .grain) 0) && (not (testBit (s .registers .mstatus) 18) && eqb (bitAnd (s .registers .medeleg) 0x3FF) (s .registers .medeleg)))
 
 -- 3 before 6: the buffer for saving is shorter than 1,027 bytes; 6 before 12
 abbrev pub saveRefusal : State → List ℕ → Option ℕ

@@ -55,13 +55,13 @@ decider (Refused number) = 17
 -- what a setting says
 abbrev pub Right : Setting → Type 0
 Right (faults cfg addr address size entry) =
-    (mode : Mode) (access : Access) → checked (alone cfg) (alone addr) mode access address size ≡ Fault (faultCause access) entry
-Right (covers cfg addr first last) = entrySpan (alone cfg) (alone addr) 0 ≡ record { low = first; high = last + 1 }
-Right (mapped cfgs addrs ranges) = rangesOf (entrySpan cfgs addrs) ≡ ranges
-Right (counted cfgs addrs n) = length (rangesOf (entrySpan cfgs addrs)) ≡ n
-Right (decided cfgs addrs address size entry) = (mode : Mode) (access : Access) → decider (checked cfgs addrs mode access address size) ≡ entry
+    (mode : Mode) (access : Access) → checked 0 (alone cfg) (alone addr) mode access address size ≡ Fault (faultCause access) entry
+Right (covers cfg addr first last) = entrySpan 0 (alone cfg) (alone addr) 0 ≡ record { low = first; high = last + 1 }
+Right (mapped cfgs addrs ranges) = rangesOf (entrySpan 0 cfgs addrs) ≡ ranges
+Right (counted cfgs addrs n) = length (rangesOf (entrySpan 0 cfgs addrs)) ≡ n
+Right (decided cfgs addrs address size entry) = (mode : Mode) (access : Access) → decider (checked 0 cfgs addrs mode access address size) ≡ entry
 Right (satp held op operand value) = satpOperated held op operand ≡ value
-Right (leaves r step register value) = register (stepRule (record { registers = r; pmp = resetPmp; satp = 0 }) (memoryAt [] 0) step .state .registers) ≡ value
+Right (leaves r step register value) = register (stepRule (record { registers = r; pmp = resetPmp 0; satp = 0 }) (memoryAt [] 0) step .state .registers) ≡ value
 
 abbrev pub AllRight : List Setting → Type 0
 AllRight [] = Unit {0}
@@ -121,7 +121,7 @@ settings =
     ∷ covers napot (2 ^ 54 - 1) 0 (2 ^ 56 - 1)
     ∷ covers tor (2 ^ 54 - 1) 0 (2 ^ 56 - 5)
     -- W7 to W9
-    ∷ mapped (resetPmp .cfgs) (resetPmp .addrs) (range 0 (2 ^ 56 - 1) none ∷ [])
+    ∷ mapped (resetPmp 0 .cfgs) (resetPmp 0 .addrs) (range 0 (2 ^ 56 - 1) none ∷ [])
     ∷ mapped (na4 ∷ napot ∷ replicate 14 0) (3 ∷ 0x1FF ∷ replicate 14 0)
     (range 0 0xB 1 ∷ range 0xC 0xF 0 ∷ range 0x10 0xFFF 1 ∷ range 0x1000 (2 ^ 56 - 1) none ∷ [])
     ∷ mapped (replicate entries na4) odd (alternating entries 0)
@@ -141,7 +141,7 @@ settings =
     ∷ decided (alone napot) (alone (2 ^ 54 - 1)) (2 ^ 56 - 4) 8 none
     ∷ decided (alone tor) (alone (2 ^ 54 - 1)) (2 ^ 56 - 8) 8 0
     ∷ decided (alone tor) (alone (2 ^ 54 - 1)) (2 ^ 56 - 4) 4 none
-    ∷ decided (resetPmp .cfgs) (resetPmp .addrs) 0 8 none
+    ∷ decided (resetPmp 0 .cfgs) (resetPmp 0 .addrs) 0 8 none
     ∷ decided (na4 ∷ napot ∷ replicate 14 0) (3 ∷ 0x1FF ∷ replicate 14 0) 8 4 1
     ∷ decided (na4 ∷ napot ∷ replicate 14 0) (3 ∷ 0x1FF ∷ replicate 14 0) 8 8 0
     ∷ decided (na4 ∷ napot ∷ replicate 14 0) (3 ∷ 0x1FF ∷ replicate 14 0) 0xFFC 8 1
