@@ -105,10 +105,9 @@ impl Hart {
     /// The first byte of an entry and the first byte past it; 0 and 0 for an
     /// entry that is off, since memory starts there anyway.
     fn borders(&self, entry: usize) -> [u64; 2] {
-        let pmpaddr = self.pmpaddr[entry];
+        let pmpaddr = self.read_pmpaddr(entry);
         match address_matching(self.pmpcfg[entry]) {
-            TOR if entry == 0 => [0, 4 * pmpaddr],
-            TOR => [4 * self.pmpaddr[entry - 1], 4 * pmpaddr],
+            TOR => [4 * self.bottom_of_range(entry), 4 * pmpaddr],
             NA4 => [4 * pmpaddr, 4 * pmpaddr + 4],
             NAPOT => napot_borders(pmpaddr),
             _ => [0, 0],

@@ -76,17 +76,17 @@ impl Hart {
     /// Whether `entry` matches the one byte at `byte`, which is in memory.
     pub fn matches(&self, entry: usize, byte: u64) -> bool {
         let word = byte >> 2;
-        let pmpaddr = self.pmpaddr[entry];
         match address_matching(self.pmpcfg[entry]) {
             OFF => false,
-            TOR => self.bottom_of_range(entry) <= word && word < pmpaddr,
-            NA4 => word == pmpaddr,
-            _ => (word ^ pmpaddr) & !free_bits(pmpaddr) == 0,
+            TOR => self.bottom_of_range(entry) <= word && word < self.bound(entry),
+            NA4 => word == self.pmpaddr[entry],
+            _ => naturally_aligned(self.napot(entry), word),
         }
     }
 
-    fn bottom_of_range(&self, entry: usize) -> u64 {
-        if entry == 0 { 0 } else { self.pmpaddr[entry - 1] }
+    /// The lower bound of a TOR entry.
+    pub(crate) fn bottom_of_range(&self, entry: usize) -> u64 {
+        if entry == 0 { 0 } else { self.bound(entry - 1) }
     }
 
     /// The byte rule for an access of `size` bytes, any number from 1 up, in the
@@ -116,8 +116,9 @@ impl Hart {
     }
 }
 
-/// The address bits a NAPOT entry does not compare: the trailing ones of
-/// pmpaddr and the zero above them.
-fn free_bits(pmpaddr: u64) -> u64 {
-    pmpaddr ^ pmpaddr.wrapping_add(1)
+/// Whether the range of a NAPOT entry has a word. All address bits are compared but
+/// the trailing ones of pmpaddr and the zero above them.
+fn naturally_aligned(pmpaddr: u64, word: u64) -> bool {
+    let free = pmpaddr ^ pmpaddr.wrapping_add(1);
+    (word ^ pmpaddr) & !free == 0
 }
