@@ -99,7 +99,7 @@ fn napot_matches_by_the_value_read() {
         (10, 0x1FE, 0, 0xFFF),
         (10, 0x200, 0, 0x1FFF),
         (10, 0x5A6, 0x1000, 0x1FFF),
-        (10, 0x2000_0E00, 0x8000_0000, 0x8000_3FFF),
+        (10, 0x2000_0E00, 0x8000_0000, 0x8000_7FFF),
         (10, 0x2000_0C00, 0x8000_3000, 0x8000_3FFF),
         (10, ALL_ONES - 0x1FF, 0, MEMORY - 1),
         (10, ALL_ONES - 0x3FF, MEMORY - 0x1000, MEMORY - 1),
