@@ -3,6 +3,7 @@
 
 use reference::{Access, Hart, Memory, STEP_WORDS, Step, status};
 
+use crate::grains::finest;
 use crate::walker::Walker;
 
 /// How the accesses in order end: at the first that is not granted.
@@ -50,9 +51,10 @@ pub struct Diagnosis {
     pub parts: u64,
     pub part: u64,
     pub end: End,
-    /// Whether the end would be another without SUM, or without MXR.
+    /// Whether the end would be another without SUM, without MXR, or with a G of 0.
     pub by_sum: bool,
     pub by_mxr: bool,
+    pub by_grain: bool,
 }
 
 impl Diagnosis {
@@ -74,13 +76,24 @@ impl Diagnosis {
         }
         let walker = Walker { hart, memory, mode: effective, access };
         let (parts, part, end) = walker.end(address, size);
-        let without = |bit: u64| {
-            let hart = Hart { mstatus: hart.mstatus & !bit, ..*hart };
-            Walker { hart: &hart, ..walker }.end(address, size).2 != end
-        };
+        let ends_otherwise =
+            |hart: Hart| Walker { hart: &hart, ..walker }.end(address, size).2 != end;
+        let without = |bit: u64| ends_otherwise(Hart { mstatus: hart.mstatus & !bit, ..*hart });
         let (by_sum, by_mxr) = (without(status::SUM), without(status::MXR));
+        let by_grain = hart.grain > 0 && ends_otherwise(finest(hart));
         let mode = hart.mode;
-        Some(Diagnosis { access, mode, effective, address, parts, part, end, by_sum, by_mxr })
+        Some(Diagnosis {
+            access,
+            mode,
+            effective,
+            address,
+            parts,
+            part,
+            end,
+            by_sum,
+            by_mxr,
+            by_grain,
+        })
     }
 
     /// The first two words of the answer.
