@@ -2,15 +2,15 @@
 //! difference.
 //!
 //! `differential [small] [loud] [only=N] [seed=N] [walks=N] [steps=N] [runs=N]
-//! [queries=N] [texts=N] [calls=N] [paging=N]`: numbers are decimal; one walk is every CSR number in
-//! every mode by every operation with all else that its access hangs on, every choice
-//! that step 7 can have to make, every shape of a NAPOT register, every grain under every A
-//! with bits set around it, every setting listed for the boundaries of a map, every map of a few ranges over a few bytes, the bits of a
-//! page-table entry at every level by every kind of access, every bit of
-//! every word of a state and every configuration byte, every place of a text with
-//! telling bytes, every length of a short run and its answers, and every kind of word for
-//! the grain of a hart that is made. Should the product
-//! end the program, `loud` tells the case, and `only` what it was lent.
+//! [queries=N] [texts=N] [calls=N] [paging=N]`: numbers are decimal; one walk is every CSR
+//! number in every mode by every operation with all else that its access hangs on, every
+//! choice that step 7 can have to make, every shape of a NAPOT register, every grain under
+//! every A with bits set around it, every setting listed for the boundaries of a map, every
+//! map of a few ranges over a few bytes, the bits of a page-table entry at every level by
+//! every kind of access, every bit of every word of a state and every configuration byte,
+//! every place of a text with telling bytes, every length of a short run and its answers,
+//! and every kind of word for the grain of a hart that is made. Should the product end the
+//! program, `loud` tells the case, and `only` what it was lent.
 //!
 //! The last line tells how many CSR steps of the walks were done, refused, or illegal
 //! for each reason of document 01. In each walk these must be exactly as many as
@@ -22,10 +22,11 @@
 //! does. In each walk that must be exactly 3,402, or the comparison fails. The same
 //! goes for the NAPOT entries whose range would be another if trailing zeros were
 //! counted: 3,074 in each walk. And for the entries that a grain makes read unlike what
-//! is stored, 737, or match other bytes, 463. And for the maps with 33 ranges that the listed
-//! settings make: 406 in each walk. Of queries, of accesses by steps, of steps by their
-//! grain and of texts saved, it tells how many were of each class; the comparison fails
-//! where a class has too few of them. So it does of the accesses by page tables, whose ends `diagnosis.rs` judges by itself.
+//! is stored, 737, or match other bytes, 463. And for the maps with 33 ranges that the
+//! listed settings make: 406 in each walk. Of queries, of accesses by steps, of steps by
+//! their grain and of texts saved, it tells how many were of each class; the comparison
+//! fails where a class has too few of them. So it does of the accesses by page tables,
+//! whose ends `diagnosis.rs` judges by itself.
 
 mod accesses;
 mod boundaries;
