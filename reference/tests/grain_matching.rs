@@ -8,7 +8,7 @@ use common::*;
 use reference::protection::MEMORY;
 use reference::random::Random;
 use reference::{
-    Access, Answer, Hart, MACHINE, Mode, NONE, Range, Ruling, SUPERVISOR, USER, generate, make,
+    Access, Answer, Hart, MACHINE, Mode, NONE, Range, Ruling, SUPERVISOR, USER, generate,
 };
 
 const TOR: u8 = 0x0F;
@@ -17,17 +17,9 @@ const ALL_ONES: u64 = (1 << 54) - 1;
 /// How many random states there are of each G.
 const STATES: usize = 300;
 
-fn hart_with(grain: u64, entries: &[(u8, u64)]) -> Hart {
-    let mut hart = make(grain).0;
-    for (entry, &(byte, pmpaddr)) in entries.iter().enumerate() {
-        (hart.pmpcfg[entry], hart.pmpaddr[entry]) = (byte, pmpaddr);
-    }
-    assert!(hart.can_hold());
-    hart
-}
-
 /// The first and last byte of each range with an owner, and that.
 fn owned(hart: &Hart) -> Vec<(u64, u64, u64)> {
+    assert!(hart.can_hold());
     let map = hart.compile();
     let owned = map.listed().iter().filter(|range| range.owner != NONE);
     owned.map(|&Range { first, last, owner }| (first, last, owner)).collect()

@@ -14,15 +14,6 @@ const PMPCFG0: u64 = 0x3A0;
 const PMPADDR0: u64 = 0x3B0;
 const ALL_ONES: u64 = (1 << 54) - 1;
 
-/// A hart whose entries have these configuration bytes and addresses, from 0 on.
-fn hart_with(grain: u64, entries: &[(u8, u64)]) -> Hart {
-    let mut hart = make(grain).0;
-    for (entry, &(byte, pmpaddr)) in entries.iter().enumerate() {
-        (hart.pmpcfg[entry], hart.pmpaddr[entry]) = (byte, pmpaddr);
-    }
-    hart
-}
-
 /// The old value that a CSR step answers, and what it leaves.
 fn csr(hart: &Hart, operation: u64, number: u64, operand: u64) -> (u64, Hart) {
     let (left, _, answer) = run_with_map(hart, &odd_map(), operation, number, operand);

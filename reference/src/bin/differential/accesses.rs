@@ -2,7 +2,7 @@
 
 use reference::capi::Question;
 use reference::sv39::satp;
-use reference::{Hart, MACHINE, SUPERVISOR, USER, status};
+use reference::{Access, Hart, MACHINE, STEP_WORDS, SUPERVISOR, Step, USER, status};
 
 use crate::compare::compare_step;
 use crate::lent::Lent;
@@ -22,6 +22,18 @@ const STORE: u64 = 2;
 /// across.
 const BORDER_ACCESSES: [(u64, u64); 5] =
     [(MACHINE, FETCH), (MACHINE, LOAD), (MACHINE, STORE), (SUPERVISOR, LOAD), (USER, LOAD)];
+
+/// What a step 14 to 16 asks for: the effective mode, the kind, the address and the size.
+pub fn asked(hart: &Hart, words: [u64; STEP_WORDS]) -> Option<(u64, Access, u64, u64)> {
+    match Step::from_words(words[0], words[1], words[2])? {
+        Step::Fetch => Some((hart.mode, Access::Fetch, hart.pc, 4)),
+        Step::Load { address, size } => Some((hart.effective_mode(), Access::Load, address, size)),
+        Step::Store { address, size } => {
+            Some((hart.effective_mode(), Access::Store, address, size))
+        }
+        _ => None,
+    }
+}
 
 /// One access judged by the map and by a step. MPP is the mode, so that MPRV may
 /// be either; a fetch is of the four bytes that hold the address. Addresses are not

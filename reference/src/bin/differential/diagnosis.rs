@@ -1,8 +1,9 @@
 //! How an access under Sv39 ends and why, judged apart from the model's walk, so that
 //! one sees whether page tables have led everywhere.
 
-use reference::{Access, Hart, Memory, STEP_WORDS, Step, status};
+use reference::{Access, Hart, Memory, STEP_WORDS, status};
 
+use crate::accesses::asked;
 use crate::grains::finest;
 use crate::walker::Walker;
 
@@ -60,17 +61,7 @@ pub struct Diagnosis {
 impl Diagnosis {
     /// Of a step 14 to 16 that refusals 3 and 1 leave.
     pub fn of(hart: &Hart, memory: Memory, words: [u64; STEP_WORDS]) -> Option<Diagnosis> {
-        let (access, effective, address, size) =
-            match Step::from_words(words[0], words[1], words[2])? {
-                Step::Fetch => (Access::Fetch, hart.mode, hart.pc, 4),
-                Step::Load { address, size } => {
-                    (Access::Load, hart.effective_mode(), address, size)
-                }
-                Step::Store { address, size } => {
-                    (Access::Store, hart.effective_mode(), address, size)
-                }
-                _ => return None,
-            };
+        let (effective, access, address, size) = asked(hart, words)?;
         if !hart.can_hold() || !matches!(size, 1 | 2 | 4 | 8) {
             return None;
         }

@@ -6,8 +6,9 @@ use std::ops::Range;
 
 use reference::csr::number::{PMPADDR0, PMPADDR15, PMPCFG0, PMPCFG2};
 use reference::protection::{LOCK, NA4, NAPOT, OFF, TOR, address_matching};
-use reference::{Access, COARSEST, Hart, MACHINE, STEP_WORDS, Step, mask};
+use reference::{COARSEST, Hart, MACHINE, STEP_WORDS, mask};
 
+use crate::accesses::asked;
 use crate::classes::{Class, Tally};
 use crate::lent::Lent;
 use crate::report::Difference;
@@ -150,17 +151,7 @@ impl Case {
     /// Whether an untranslated access would be answered otherwise with a G of 0.
     fn decides(&self) -> bool {
         let hart = &self.hart;
-        let [number, a, b] = self.words;
-        let (mode, access, address, size) = match Step::from_words(number, a, b) {
-            Some(Step::Fetch) => (hart.mode, Access::Fetch, hart.pc, 4),
-            Some(Step::Load { address, size }) => {
-                (hart.effective_mode(), Access::Load, address, size)
-            }
-            Some(Step::Store { address, size }) => {
-                (hart.effective_mode(), Access::Store, address, size)
-            }
-            _ => return false,
-        };
+        let Some((mode, access, address, size)) = asked(hart, self.words) else { return false };
         let accepted = self.held && matches!(size, 1 | 2 | 4 | 8) && !hart.is_translated(mode);
         let ruling = |hart: &Hart| hart.byte_rule(mode, access, address, size);
         accepted && hart.grain > 0 && ruling(hart) != ruling(&finest(hart))
