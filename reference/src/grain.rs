@@ -27,13 +27,17 @@ impl Hart {
 
     /// pmpaddr as a bound of TOR, whatever A its entry has: without its low G bits.
     pub(crate) fn bound(&self, entry: usize) -> u64 {
-        self.pmpaddr[entry] >> self.grain << self.grain
+        self.pmpaddr[entry] & !self.low_bits()
     }
 
     /// pmpaddr as NAPOT reads and matches it: with its low G-1 bits set.
     pub(crate) fn napot(&self, entry: usize) -> u64 {
-        let low_bits = (1 << self.grain) - 1;
-        self.pmpaddr[entry] | low_bits >> 1
+        self.pmpaddr[entry] | self.low_bits() >> 1
+    }
+
+    /// The low G bits of pmpaddr.
+    fn low_bits(&self) -> u64 {
+        (1 << self.grain) - 1
     }
 
     /// Whether the grain lets no entry have this configuration byte: NA4 is finer than

@@ -1,7 +1,9 @@
 //! The map: memory cut into ranges, each owned by its lowest matching entry.
 
+use std::array;
+
 use crate::hart::Hart;
-use crate::protection::{MEMORY, NA4, NAPOT, TOR, address_matching};
+use crate::protection::{MEMORY, Matcher, NA4, NAPOT, TOR, address_matching};
 
 /// The most ranges a map can have.
 pub const RANGES: usize = 33;
@@ -88,10 +90,11 @@ impl Hart {
             pair.copy_from_slice(&self.borders(entry));
         }
         borders.sort_unstable();
+        let matchers = array::from_fn(|entry| self.matcher(entry));
         let mut map = Map::EMPTY;
         for first in borders {
             if first < MEMORY {
-                map.append(first, self.owner(first));
+                map.append(first, owner(&matchers, first));
             }
         }
         map
@@ -99,7 +102,7 @@ impl Hart {
 
     /// The lowest entry that matches the byte, or `NONE`.
     pub fn owner(&self, byte: u64) -> u64 {
-        (0..16).find(|&entry| self.matches(entry, byte)).map_or(NONE, |entry| entry as u64)
+        owner(&array::from_fn(|entry| self.matcher(entry)), byte)
     }
 
     /// The first byte of an entry and the first byte past it; 0 and 0 for an
@@ -113,6 +116,11 @@ impl Hart {
             _ => [0, 0],
         }
     }
+}
+
+/// The lowest of all entries that matches the byte, or `NONE`.
+fn owner(matchers: &[Matcher; 16], byte: u64) -> u64 {
+    matchers.iter().position(|matcher| matcher.matches(byte)).map_or(NONE, |entry| entry as u64)
 }
 
 fn napot_borders(pmpaddr: u64) -> [u64; 2] {
