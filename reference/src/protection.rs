@@ -76,17 +76,11 @@ fn permits(configuration: u8, mode: u64, access: Access) -> bool {
 #[derive(Clone, Copy)]
 pub(crate) enum Matcher {
     /// The words from `bottom` up to but not including `top`.
-    Range {
-        bottom: u64,
-        top: u64,
-    },
+    Range { bottom: u64, top: u64 },
     /// The word at this address alone.
     Word(u64),
     /// The words that have the bits of `pmpaddr` where they are compared.
-    Bits {
-        pmpaddr: u64,
-        compared: u64,
-    },
+    Bits { pmpaddr: u64, compared: u64 },
 }
 
 impl Matcher {
