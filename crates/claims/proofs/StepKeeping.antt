@@ -5,7 +5,7 @@ use mathlib.Core.Bool.{Bool, true, false, cond, _&&_}
 use mathlib.Core.List.{List}
 use mathlib.Core.Logic.{_⊎_, inl, inr}
 use native.Mathlib.Omega.{arith}
-use borrow.Author.Tests.{less, lt-ltb, le-ltb}
+use borrow.Author.Tests.{lt-ltb, le-ltb}
 use lib.Dec.{ltb}
 use Rattle.bits.proofs.Conjunction.{both, not-true-false}
 use Rattle.bits.proofs.FoldLaws.{fold-keeps}
@@ -22,6 +22,7 @@ use Rattle.paging.specs.Memory.{Memory}
 use Rattle.state.specs.declared.State.{State}
 use Rattle.state.specs.Hold.{canHold}
 use Rattle.map.specs.declared.Map.{Map}
+use Rattle.map.proofs.Lawful.{less}
 use Rattle.engine.specs.Effects.{isReset, stepRule}
 use Rattle.engine.specs.Runs.{Lent, stateAfter, afterAll}
 use Rattle.engine.proofs.EffectLaws.{only-reset, rule-grain}
