@@ -1,30 +1,34 @@
--- What address registers read by the grain: it fits in a word, and with a grain of 4 bytes it is what is stored. Assumes nothing.
+-- What address registers read by the grain, as a program computes it; with a grain of 4 bytes it is what is stored. Assumes nothing.
 use mathlib.Core.Path.{_≡_, refl, sym, ap, _∙_}
 use mathlib.Core.Bool.{Bool, true, false, cond}
 use mathlib.Core.List.{List}
-use Prim.Native.Nat.{ℕ, _+_, _-_, _*_, _/_, _%_, _^_, _≤_, _<_}
-use native.Mathlib.Nat.{div-mul-le-self, div-lt-iff-lt-mul, mul-le-mul-right}
+use Prim.Native.Nat.{ℕ, zero, suc, _+_, _-_, _*_, _/_, _%_, _^_, _≤_, _<_}
+use native.Mathlib.Nat.{pow-suc, div-mul-le-self, div-add-mod'}
+use lib.Bits.{bitAnd, bitOr, and-mask, or-add-and}
 use native.Mathlib.Omega.{arith}
 use lib.Dec.{ltb}
-use lib.Pow.{pow-add, pow-pos}
+use lib.Pow.{pow-pos}
 use borrow.Author.Tests.{ltb-true}
-use Rattle.pmp.specs.Entry.{spanOf, knownGrain, lowZeros, lowOnes, addressRead, boundRead, spanRead}
+use Rattle.pmp.specs.Entry.{spanOf, knownGrain, lowZeros, lowOnes, addressRead, spanRead}
 
 pub zeros-fit : (n word : ℕ) → word < 2 ^ 64 → word / 2 ^ n * 2 ^ n % 2 ^ 64 ≡ lowZeros n word
 zeros-fit n word h = let l : word / 2 ^ n * 2 ^ n ≤ word = div-mul-le-self word (2 ^ n) in omega arith
 
-pub ones-fit : (n word : ℕ) → n < 11 → word < 2 ^ 64 → lowOnes n word < 2 ^ 64
-ones-fit n word l h =
-    let whole : 64 - n + n ≡ 64 = omega arith in
-    let split : 2 ^ 64 ≡ 2 ^ (64 - n) * 2 ^ n = ap (λ (k : ℕ). 2 ^ k) (sym whole) ∙ pow-add 2 (64 - n) n in
-    let q : word / 2 ^ n < 2 ^ (64 - n) = div-lt-iff-lt-mul (pow-pos n) .1 (rw split at h) in
-    let m : (word / 2 ^ n + 1) * 2 ^ n ≤ 2 ^ (64 - n) * 2 ^ n = mul-le-mul-right (2 ^ n) (omega arith) in
-    let e : (word / 2 ^ n + 1) * 2 ^ n ≡ word / 2 ^ n * 2 ^ n + 2 ^ n = omega arith in
-    omega (arith, pow-pos n)
+-- half of n ones is one fewer
+half-ones : (n : ℕ) → (2 ^ n - 1) / 2 ≡ 2 ^ (n - 1) - 1
+half-ones zero = refl
+half-ones (suc n) =
+    let e : suc n - 1 ≡ n = omega arith in
+    rw e (omega (arith, pow-suc 2 n))
 
--- no bit is read as a one in place of what is stored
-pub ones-none : (word : ℕ) → lowOnes 0 word ≡ word
-ones-none word = omega arith
+-- ones are put over the lowest bits by an or
+pub ones-put : (n word : ℕ) → bitOr word ((2 ^ n - 1) / 2) ≡ lowOnes (n - 1) word
+ones-put n word =
+    let k = n - 1 in
+    let s = or-add-and word (2 ^ k - 1) in
+    let m : bitAnd word (2 ^ k - 1) ≡ word % 2 ^ k = and-mask word k in
+    let d : word ≡ word / 2 ^ k * 2 ^ k + word % 2 ^ k = sym (div-add-mod' word (2 ^ k)) in
+    ap (bitOr word) (half-ones n) ∙ omega (arith, s, m, d, pow-pos k)
 
 -- ---- a grain of 4 bytes
 
@@ -36,12 +40,11 @@ read-stored a addr = go (ltb a 2)
     go true = omega arith
     go false = omega arith
 
-pub bound-stored : (before : ℕ) → boundRead 0 before ≡ before
-unfolding boundRead
+bound-stored : (before : ℕ) → lowZeros 0 before ≡ before
 bound-stored before = omega arith
 
 pub span-stored : (a addr before : ℕ) → spanRead 0 a addr before ≡ spanOf a addr before
-span-stored a addr before = rw (read-stored a addr, bound-stored before)
+span-stored a addr before = λ j. spanOf a (read-stored a addr j) (bound-stored before j)
 
 -- ---- a grain above 10
 

@@ -58,13 +58,9 @@ lowOnes n word = lowZeros n word + (2 ^ n - 1)
 unfoldable pub addressRead : ℕ → ℕ → ℕ → ℕ
 addressRead g a addr = cond (ltb a 2) (lowZeros (knownGrain g) addr) (lowOnes (knownGrain g - 1) addr)
 
--- 002, TOR's lower bound: the register before without its low G bits, whatever A is there
-unfoldable pub boundRead : ℕ → ℕ → ℕ
-boundRead g before = lowZeros (knownGrain g) before
-
--- an entry matches by what is read
+-- an entry matches by what is read; TOR's lower bound is the register before without its low G bits, whatever A is there
 abbrev pub spanRead : ℕ → ℕ → ℕ → ℕ → Span
-spanRead g a addr before = spanOf a (addressRead g a addr) (boundRead g before)
+spanRead g a addr before = spanOf a (addressRead g a addr) (lowZeros (knownGrain g) before)
 
 -- pmpaddr(i-1), and 0 for entry 0
 abbrev pub addressBefore : List ℕ → ℕ → ℕ

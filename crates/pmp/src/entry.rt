@@ -2,8 +2,8 @@
 use crate::Span;
 use crate::TOP;
 ghost use mathlib.Core.Path.{_≡_};
-ghost use Prim.Native.Nat.{_*_, _<_, min};
-ghost use Rattle.pmp.specs.Entry.{top, trailingOnes, napot, spanOf, fieldA, knownGrain, lowZeros, lowOnes, addressRead, boundRead, spanRead, locked, contains};
+ghost use Prim.Native.Nat.{_-_, _*_, _<_, min};
+ghost use Rattle.pmp.specs.Entry.{top, trailingOnes, napot, spanOf, fieldA, knownGrain, lowZeros, lowOnes, addressRead, spanRead, locked, contains};
 
 // 2^54: the first word past physical memory.
 const TOP_WORD: u64 = 0x40000000000000;
@@ -23,7 +23,7 @@ fn word_start(word: u64) -> u64
 }
 
 // The naturally aligned power of two bytes that an address register names. Its size is tested before it is formed, so that no sum wraps.
-fn napot_span(addr: u64) -> Span
+pub(crate) fn napot_span(addr: u64) -> Span
     ensures { λ r. ⌜ r ≡ napot addr (trailingOnes 64 addr) ⌝ }
 {
     let t = trailing_ones(addr);
@@ -79,41 +79,31 @@ pub fn known_grain(grain: u64) -> u64
     if grain < 11 { grain } else { 0 }
 }
 
-// A word with its lowest bits zeros.
-fn low_zeros(count: u64, word: u64) -> u64
-    requires { ⌜ count < 11 ⌝ }
-    ensures { λ r. ⌜ r ≡ lowZeros count word ⌝ }
+// An address register without the low bits that TOR ignores.
+pub(crate) fn bound_read(grain: u64, addr: u64) -> u64
+    ensures { λ r. ⌜ r ≡ lowZeros (knownGrain grain) addr ⌝ }
 {
-    (word >> count) << count
+    let count = known_grain(grain);
+    (addr >> count) << count
 }
 
-// A word with its lowest bits ones.
-fn low_ones(count: u64, word: u64) -> u64
-    requires { ⌜ count < 11 ⌝ }
-    ensures { λ r. ⌜ r ≡ lowOnes count word ⌝ }
+// An address register with the low bits ones that NAPOT reads so: one fewer than TOR ignores, and none where that is none.
+pub(crate) fn napot_read(grain: u64, addr: u64) -> u64
+    ensures { λ r. ⌜ r ≡ lowOnes (knownGrain grain - 1) addr ⌝ }
 {
-    low_zeros(count, word) + ((1u64 << count) - 1)
-}
-
-// TOR's lower bound, from the address register before.
-pub(crate) fn bound_read(grain: u64, before: u64) -> u64
-    ensures { λ r. ⌜ r ≡ boundRead grain before ⌝ }
-{
-    low_zeros(known_grain(grain), before)
+    let ignored = (1u64 << known_grain(grain)) - 1;
+    addr | (ignored >> 1)
 }
 
 // What an address register reads, by the A field of its entry.
 pub fn address_read(grain: u64, cfg: u8, addr: u64) -> u64
     ensures { λ r. ⌜ r ≡ addressRead grain (fieldA cfg) addr ⌝ }
 {
-    let count = known_grain(grain);
     if cfg / 8 % 4 < 2 {
-        return low_zeros(count, addr);
+        bound_read(grain, addr)
+    } else {
+        napot_read(grain, addr)
     }
-    if count == 0 {
-        return addr;
-    }
-    low_ones(count - 1, addr)
 }
 
 // The bytes that an entry matches, from its configuration byte, its address register and the one before.

@@ -1,10 +1,11 @@
 // The lowest entry that matches any byte of an access, and whether it matches all.
 use crate::Found;
 use crate::Span;
-use crate::entry::address_read;
 use crate::entry::bound_read;
 use crate::entry::contains;
 use crate::entry::entry_span;
+use crate::entry::napot_read;
+use crate::entry::napot_span;
 ghost use mathlib.Core.Path.{_≡_};
 ghost use mathlib.Core.Bool.{true, false, _&&_};
 ghost use lib.Dec.{ltb};
@@ -49,7 +50,7 @@ fn overlapping(
         if a == 0 {
             return apart();
         }
-        if address_read(grain, cfg, addr) <= first {
+        if bound_read(grain, addr) <= first {
             return apart();
         }
         if end <= bound_read(grain, before) {
@@ -61,7 +62,7 @@ fn overlapping(
         };
     }
     if a == 2 {
-        let word = address_read(grain, cfg, addr);
+        let word = napot_read(grain, addr);
         if word < first {
             return apart();
         }
@@ -73,7 +74,7 @@ fn overlapping(
             span: entry_span(grain, cfg, addr, before),
         };
     }
-    let span = entry_span(grain, cfg, addr, before);
+    let span = napot_span(napot_read(grain, addr));
     Overlap {
         some: (address < span.high) & (span.low < address + size),
         span,

@@ -7,17 +7,17 @@ use lib.Dec.{ltb}
 use borrow.Author.Needs.{needs}
 use borrow.Author.Tests.{lt-ltb, le-ltb}
 use Rattle.pmp.specs.declared.Span.{Span}
-use Rattle.pmp.specs.Entry.{spanOf, fieldA, addressRead, boundRead, spanRead}
+use Rattle.pmp.specs.Entry.{trailingOnes, napot, spanOf, fieldA, knownGrain, lowZeros, addressRead, spanRead}
 use Rattle.pmp.proofs.EntryLaws.{overlaps, off-overlaps, tor-overlaps, na4-overlaps}
 use Rattle.pmp.proofs.search.overlapping.Statement.{statement}
 use Rattle.pmp.proofs.search.overlapping.Tie as tie
 
--- the test of the span by the A field, from the word that is read and the lower bound
-module _ (c : tie.Start) (a : ℕ) (e : fieldA (c .args .cfg) ≡ a) {word bound : ℕ}
-    (read : word ≡ addressRead (c .args .grain) (fieldA (c .args .cfg)) (c .args .addr)) (lower : bound ≡ boundRead (c .args .grain) (c .args .before)) where
-  tested : (b : Bool) → overlaps (spanOf a word bound) (c .args .address) (c .args .size) ≡ b
-      → b ≡ overlaps (spanRead (c .args .grain) (fieldA (c .args .cfg)) (c .args .addr) (c .args .before)) (c .args .address) (c .args .size)
-  tested b t = sym t ∙ (λ j. overlaps (spanOf (sym e j) (read j) (lower j)) (c .args .address) (c .args .size))
+-- the test of the span by the A field
+tested : (c : tie.Start) (a : ℕ) → fieldA (c .args .cfg) ≡ a → (b : Bool)
+    → overlaps (spanRead (c .args .grain) a (c .args .addr) (c .args .before)) (c .args .address) (c .args .size) ≡ b
+    → b ≡ overlaps (spanRead (c .args .grain) (fieldA (c .args .cfg)) (c .args .addr) (c .args .before)) (c .args .address) (c .args .size)
+tested c a e b t =
+    sym t ∙ ap (λ (k : ℕ). overlaps (spanRead (c .args .grain) k (c .args .addr) (c .args .before)) (c .args .address) (c .args .size)) (sym e)
 
 -- nothing is told of a span where there is no overlap
 none : {some : Bool} {A : Type 0} → some ≡ false → some ≡ true → A
@@ -28,26 +28,33 @@ returns c =
     let s = c .before .before .before in
     let a = s .args in
     let k : fieldA (a .cfg) ≡ 0 = omega arith in
-    (c .apart .ensures ∙ tested s 0 k refl refl false (off-overlaps (a .address) (a .size) _ _), none (c .apart .ensures))
+    (c .apart .ensures ∙ tested s 0 k false (off-overlaps (a .address) (a .size) _ _), none (c .apart .ensures))
 
--- TOR, and NA4, by the tests of the words
-tor : (c : tie.After-address-read) {bound : ℕ} → let s = c .before .before .before in bound ≡ boundRead (s .args .grain) (s .args .before)
-    → (b : Bool) → (ltb (s .args .address / 4) (c .address-read .result) && ltb bound ((s .args .address + s .args .size + 3) / 4)) ≡ b
+-- TOR, and NA4, by the tests of the words that are read
+tor : (c : tie.After-bound-read) {bound : ℕ} → let s = c .before .before .before in bound ≡ lowZeros (knownGrain (s .args .grain)) (s .args .before)
+    → (b : Bool) → (ltb (s .args .address / 4) (c .bound-read .result) && ltb bound ((s .args .address + s .args .size + 3) / 4)) ≡ b
     → b ≡ overlaps (spanRead (s .args .grain) (fieldA (s .args .cfg)) (s .args .addr) (s .args .before)) (s .args .address) (s .args .size)
+unfolding addressRead
 tor c lower b t =
     let s = c .before .before .before in
     let a = s .args in
     let k : fieldA (a .cfg) ≡ 1 = omega arith in
-    tested s 1 k (c .address-read .ensures) lower b (tor-overlaps (a .address) (a .size) _ _ (s .pre .0) (s .pre .1) ∙ t)
+    tested s 1 k b
+    ((λ j. overlaps (spanOf 1 (sym (c .bound-read .ensures) j) (sym lower j)) (a .address) (a .size)) ∙ tor-overlaps (a .address) (a .size) _ _ (s .pre .0) (s .pre .1)
+    ∙ t)
 
-na4 : (c : tie.After-address-read2) (b : Bool) → let s = c .before .before .before in
-    (ltb (s .args .address / 4) (c .address-read2 .result + 1) && ltb (c .address-read2 .result) ((s .args .address + s .args .size + 3) / 4)) ≡ b
+na4 : (c : tie.After-napot-read) (b : Bool) → let s = c .before .before .before in
+    (ltb (s .args .address / 4) (c .napot-read .result + 1) && ltb (c .napot-read .result) ((s .args .address + s .args .size + 3) / 4)) ≡ b
     → b ≡ overlaps (spanRead (s .args .grain) (fieldA (s .args .cfg)) (s .args .addr) (s .args .before)) (s .args .address) (s .args .size)
+unfolding addressRead
 na4 c b t =
     let s = c .before .before .before in
     let a = s .args in
     let k : fieldA (a .cfg) ≡ 2 = omega arith in
-    tested s 2 k (c .address-read2 .ensures) refl b (na4-overlaps (a .address) (a .size) _ _ (s .pre .0) (s .pre .1) ∙ t)
+    tested s 2 k b
+    ((λ j. overlaps (spanOf 2 (sym (c .napot-read .ensures) j) (lowZeros (knownGrain (a .grain)) (a .before))) (a .address) (a .size))
+    ∙ na4-overlaps (a .address) (a .size) _ _ (s .pre .0) (s .pre .1)
+    ∙ t)
 
 returns-2 : tie.Need-returns-2
 returns-2 c =
@@ -57,23 +64,23 @@ returns-3 : tie.Need-returns-3
 returns-3 c =
     let l = c .before .before in
     let e = l .before in
-    (c .apart3 .ensures ∙ tor (e .before) (l .bound-read .ensures) false (rw (lt-ltb _ _ (e .if3 .left), le-ltb _ _ (c .before .if4 .taken))), none (c .apart3 .ensures))
+    (c .apart3 .ensures ∙ tor (e .before) (l .bound-read2 .ensures) false (rw (lt-ltb _ _ (e .if3 .left), le-ltb _ _ (c .before .if4 .taken))), none (c .apart3 .ensures))
 
 returns-4 : tie.Need-returns-4
 returns-4 c =
     let l = c .before .before in
     let e = l .before in
-    (tor (e .before) (l .bound-read .ensures) true (rw (lt-ltb _ _ (e .if3 .left), lt-ltb _ _ (c .before .if4 .left))), λ t. c .entry-span .ensures)
+    (tor (e .before) (l .bound-read2 .ensures) true (rw (lt-ltb _ _ (e .if3 .left), lt-ltb _ _ (c .before .if4 .left))), λ t. c .entry-span .ensures)
 
 returns-5 : tie.Need-returns-5
 returns-5 c =
     let r = c .before .before in
     let s = r .before .before .before in
-    let h : r .address-read2 .result + 1 ≤ s .args .address / 4 = omega (arith, c .before .if6 .taken) in
+    let h : r .napot-read .result + 1 ≤ s .args .address / 4 = omega (arith, c .before .if6 .taken) in
     (c .apart4 .ensures ∙ na4 r false (rw (le-ltb _ _ h)), none (c .apart4 .ensures))
 
--- NA4 begins no later than the first word's end
-begins : (c : tie.Else6) → c .before .before .before .before .args .address / 4 < c .before .address-read2 .result + 1
+-- the entry's word is no earlier than the first of the access
+begins : (c : tie.Else6) → c .before .before .before .before .args .address / 4 < c .before .napot-read .result + 1
 begins c = omega (arith, c .if6 .left)
 
 returns-6 : tie.Need-returns-6
@@ -86,11 +93,21 @@ returns-7 c =
     let e = c .before .before in
     (na4 (e .before) true (rw (lt-ltb _ _ (begins e), lt-ltb _ _ (c .before .if7 .left))), λ t. c .entry-span2 .ensures)
 
+-- NAPOT has the bytes of the word that is read
+whole : (c : tie.After-napot-span) → let s = c .before .before .before .before in
+    c .napot-span .result ≡ spanRead (s .args .grain) (fieldA (s .args .cfg)) (s .args .addr) (s .args .before)
+unfolding spanOf addressRead
+whole c =
+    let a = c .before .before .before .before .args in
+    let k : 3 ≡ fieldA (a .cfg) = omega arith in
+    c .napot-span .ensures ∙ ap (λ (w : ℕ). napot w (trailingOnes 64 w)) (c .before .napot-read2 .ensures)
+    ∙ ap (λ (n : ℕ). spanRead (a .grain) n (a .addr) (a .before)) k
+
 returns-8 : tie.Need-returns-8
 returns-8 c =
     let n = c .before .before in
-    let a = n .before .before .before .args in
-    (ap (λ (s : Span). overlaps s (a .address) (a .size)) (n .entry-span3 .ensures), λ t. n .entry-span3 .ensures)
+    let a = n .before .before .before .before .args in
+    (ap (λ (s : Span). overlaps s (a .address) (a .size)) (whole n), λ t. whole n)
 
 pub overlapping-spec : {M : Type 1} → statement M
 overlapping-spec =
@@ -115,6 +132,7 @@ overlapping-spec =
     returns-6
     (λ c κs. search needs)
     returns-7
+    (λ c κs. search needs)
     (λ c κs. search needs)
     (λ c. search needs)
     returns-8)
