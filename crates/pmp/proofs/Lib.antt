@@ -2,6 +2,8 @@
 pub mod SearchLaws
 pub mod EntryLaws
 pub mod GrainLaws
+pub mod GrainBits
+pub mod WholeGrains
 pub mod RuleLaws
 pub mod Owner
 pub mod Answered
