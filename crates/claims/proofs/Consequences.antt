@@ -43,9 +43,9 @@ packed-bytes : packed (1 ∷ 2 ∷ 3 ∷ 4 ∷ 5 ∷ 6 ∷ 7 ∷ 8 ∷ []) ≡ 0
 unfolding packed
 packed-bytes = refl
 
-reset-text : (grain : ℕ) → textFor (hartWith (resetState grain)) ≡ joined resetLines
+reset-text : textFor (hartWith (resetState 0)) ≡ joined resetLines
 unfolding bytesOf hexDigits lineOf linesOf keys textOf packed elements
-reset-text grain = refl
+reset-text = refl
 
 -- ---- owners
 

@@ -9,7 +9,7 @@ use borrow.Author.Tests.{lt-ltb, le-ltb}
 use lib.Dec.{ltb}
 use Rattle.bits.proofs.Conjunction.{both, not-true-false}
 use Rattle.bits.proofs.FoldLaws.{fold-keeps}
-use Rattle.pmp.specs.Entry.{knownGrain}
+use Rattle.pmp.specs.Entry.{spanOf, legalGrain}
 use Rattle.steps.specs.declared.Step.{Step}
 use Rattle.steps.specs.declared.Step.the-variants.{Reset}
 use Rattle.protection.specs.Same.{samePmp}
@@ -22,6 +22,8 @@ use Rattle.paging.specs.Memory.{Memory}
 use Rattle.state.specs.declared.State.{State}
 use Rattle.state.specs.Hold.{canHold}
 use Rattle.map.specs.declared.Map.{Map}
+use Rattle.map.specs.Painting.{painted, rangesOf}
+use Rattle.map.specs.Compiled.{compiled}
 use Rattle.map.proofs.Lawful.{less}
 use Rattle.engine.specs.Effects.{isReset, stepRule}
 use Rattle.engine.specs.Runs.{Lent, stateAfter, afterAll}
@@ -29,7 +31,7 @@ use Rattle.engine.proofs.EffectLaws.{only-reset, rule-grain}
 use Rattle.engine.proofs.Holds.{rule-holds}
 use Rattle.hart.specs.declared.Hart.{Hart}
 use Rattle.hart.specs.declared.Stepped.{Stepped}
-use Rattle.hart.specs.Steps.{mapFor, resetDone, stepped}
+use Rattle.hart.specs.Steps.{mapFor, resetMapped, resetDone, stepped}
 use Rattle.hart.proofs.StepLaws.{step-parts}
 use Rattle.claims.specs.Keeps.{StepKeeps}
 
@@ -50,12 +52,16 @@ module _ (h : Hart) (map : Map) (m : Memory) (step : Step) (other : isReset step
 
 -- ---- the grain
 
-known-is : (g : ℕ) → knownGrain g ≡ cond (ltb 10 g) 0 g
-known-is g = go (less 10 g)
+legal-is : (g : ℕ) → legalGrain g ≡ cond (ltb 10 g) 0 g
+legal-is g = go (less 10 g)
   where
-    go : (10 < g) ⊎ (g ≤ 10) → knownGrain g ≡ cond (ltb 10 g) 0 g
+    go : (10 < g) ⊎ (g ≤ 10) → legalGrain g ≡ cond (ltb 10 g) 0 g
     go (inl h) = rw (lt-ltb 10 g h, le-ltb g 11 (omega arith))
     go (inr h) = rw (le-ltb 10 g h, lt-ltb g 11 (omega arith))
+
+reset-map : (g : ℕ) → resetMapped g .map ≡ resetMapped 0 .map
+unfolding compiled rangesOf painted spanOf
+reset-map g = refl
 
 grain-kept : (h : Hart) (map : Map) (m : Memory) (step : Step)
     → stepped h map m step .hart .state .pmp .grain ≡ cond (isReset step && ltb 10 (h .state .pmp .grain)) 0 (h .state .pmp .grain)
@@ -64,7 +70,7 @@ grain-kept h map m step = go (isReset step) refl
   where
     go : (b : Bool) → isReset step ≡ b
         → stepped h map m step .hart .state .pmp .grain ≡ cond (b && ltb 10 (h .state .pmp .grain)) 0 (h .state .pmp .grain)
-    go true e = rw e (known-is (h .state .pmp .grain))
+    go true e = rw e (legal-is (h .state .pmp .grain))
     go false e = rw e (rule-grain (h .state) m step e)
 
 -- a state that a hart can hold keeps its grain at a reset too
@@ -91,7 +97,8 @@ step-keeps =
       holdable = λ s m step p. rule-holds s p m step;
       reset = reset-given;
       grain = grain-kept;
-      made = λ g. known-is g;
+      made = legal-is;
+      reset-map = reset-map;
       grain-after = grain-after;
       mapless = λ h map m step.
           (ap (λ (r : Stepped). r .hart .state) (step-parts h map m step), ap (λ (r : Stepped). r .answer) (step-parts h map m step));

@@ -47,4 +47,4 @@ pub worked : AllRight settings
 unfolding lowest anyByte everyByte trailingOnes spanOf addressRead lowestMatch byteRule checked painted rangesOf
     registersHoldable pmpHoldable all enteredStatus entered takeable interruptTaken returnedStatus returned returnStep elapsed canHold stepRule packed unpacked configsOf configsWritten pmpWritten
 worked =
-    (λ mode access. refl, (refl, (refl, (refl, (refl, (refl, (refl, (refl, (refl, (refl, (refl, (λ mode access. entry-tells mode access na4 0, (none-tells, (λ mode access. entry-tells mode access napot 0, (λ mode access. refl, (none-tells, (λ mode access. refl, (λ mode access. entry-tells mode access napot 0, (none-tells, (λ mode access. refl, (none-tells, (λ mode access. entry-tells mode access napot 0, (λ mode access. refl, (λ mode access. refl, (none-tells, (none-tells, (λ mode access. entry-tells mode access napot 1, (λ mode access. refl, (λ mode access. refl, (none-tells, (λ mode access. entry-tells mode access na4 15, (λ mode access. refl, (none-tells, (refl, (refl, (refl, (refl, (refl, (refl, (refl, (refl, (refl, (refl, (refl, (refl, (refl, (refl, (refl, (refl, (refl, (refl, (refl, (refl, ((refl, refl), ((refl, refl), ((refl, refl), (refl, (refl, (refl, (refl, (refl, (refl, (refl, (refl, (refl, (refl, (refl, ((refl, refl), ((refl, refl), ((refl, refl), ((refl, refl), ((refl, refl), ((refl, refl), (refl, (refl, (refl, ((refl, refl), ((refl, refl), ((refl, refl), (refl, (refl, ((refl, refl), tt))))))))))))))))))))))))))))))))))))))))))))))))))))))))))))))))))))))))))))))))))
+    (λ mode access. refl, (refl, (refl, (refl, (refl, (refl, (refl, (refl, (refl, (refl, (refl, (λ mode access. entry-tells mode access na4 0, (none-tells, (λ mode access. entry-tells mode access napot 0, (λ mode access. refl, (none-tells, (λ mode access. refl, (λ mode access. entry-tells mode access napot 0, (none-tells, (λ mode access. refl, (none-tells, (λ mode access. entry-tells mode access napot 0, (λ mode access. refl, (λ mode access. refl, (none-tells, (none-tells, (λ mode access. entry-tells mode access napot 1, (λ mode access. refl, (λ mode access. refl, (none-tells, (λ mode access. entry-tells mode access na4 15, (λ mode access. refl, (none-tells, (refl, (refl, (refl, (refl, (refl, (refl, (refl, (refl, (refl, (refl, (refl, (refl, (refl, (refl, (refl, (refl, (refl, (refl, (refl, (refl, ((refl, refl), ((refl, refl), ((refl, refl), (refl, (refl, (refl, (refl, (refl, (refl, (refl, (refl, (refl, (refl, (refl, (refl, ((refl, refl), ((refl, refl), ((refl, refl), ((refl, refl), ((refl, refl), ((refl, refl), (refl, (refl, (refl, (refl, (refl, (refl, ((refl, refl), ((refl, refl), ((refl, refl), (refl, (refl, ((refl, refl), tt))))))))))))))))))))))))))))))))))))))))))))))))))))))))))))))))))))))))))))))))))))))

@@ -330,7 +330,7 @@ pub record Consequences : Type 0 where
   pub lines : (s : State) → (textFor (hartWith s) ≡ keyedText (keyed s)) × (length (keyed s) ≡ 41) × (length (textFor (hartWith s)) ≡ 1027)
   pub digits : hexDigits 16 0x0123456789ABCDEF ≡ bytesOf "0123456789abcdef"
   -- "The reset state is that text with every value 0 except mode 3, pc 1000, mstatus a00000000."
-  pub reset-text : (grain : ℕ) → textFor (hartWith (resetState grain)) ≡ joined resetLines
+  pub reset-text : textFor (hartWith (resetState 0)) ≡ joined resetLines
   -- reading and writing a text are inverse: 41 words below 2^64 are read from their text, what is read as words is their text, and what is refused is no text
   pub text-read : (words : List ℕ) → Words 41 words → readText (textOf words) ≡ readAs words
   pub read-text : (text words : List ℕ) → readText text ≡ readAs words → (text ≡ textOf words) × Words 41 words

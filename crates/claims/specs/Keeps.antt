@@ -20,6 +20,8 @@ pub record StepKeeps : Type 0 where
   pub holdable : (s : State) (m : Memory) (step : Step) → canHold s ≡ true → canHold (stepRule s m step .state) ≡ true
   -- step 0 hands back the reset state and the reset map, whatever was given but for the grain
   pub reset : (h : Hart) (map : Map) (m : Memory) → stepped h map m Reset ≡ resetDone (h .state .pmp .grain)
+  -- that map is one for every grain
+  pub reset-map : (g : ℕ) → resetMapped g .map ≡ resetMapped 0 .map
   -- [9]: "no step changes it, but making a hart and step 0 turn a G above 10 into 0"
   pub grain : (h : Hart) (map : Map) (m : Memory) (step : Step)
       → stepped h map m step .hart .state .pmp .grain ≡ cond (isReset step && ltb 10 (h .state .pmp .grain)) 0 (h .state .pmp .grain)

@@ -34,8 +34,6 @@ pub data Setting : Type 0 where
   faults : (cfg addr address size entry : ℕ) → Setting
   -- entry 0 alone matches the bytes from first to last
   covers : (cfg addr first last : ℕ) → Setting
-  -- sixteen entries have this map
-  mapped : (cfgs addrs : List ℕ) → List Range → Setting
   -- sixteen entries have this many ranges
   counted : (cfgs addrs : List ℕ) → ℕ → Setting
   -- this entry, or none, decides on an access of `size` bytes, in every mode and whatever its kind
@@ -44,7 +42,7 @@ pub data Setting : Type 0 where
   satp : (held : ℕ) → Operation → (operand value : ℕ) → Setting
   -- 02, [9]: by the grain, entry 1 behind entry 0 matches the bytes from first to last
   second : (grain cfg₀ addr₀ cfg addr first last : ℕ) → Setting
-  -- by the grain, sixteen entries have this map
+  -- sixteen entries have this map by the grain
   mappedBy : (grain : ℕ) (cfgs addrs : List ℕ) → List Range → Setting
   -- by the grain, pmpcfg0 after an operation on the value held
   configured : (grain held : ℕ) → Operation → (operand value : ℕ) → Setting
@@ -76,7 +74,6 @@ abbrev pub Right : Setting → Type 0
 Right (faults cfg addr address size entry) =
     (mode : Mode) (access : Access) → checked 0 (alone cfg) (alone addr) mode access address size ≡ Fault (faultCause access) entry
 Right (covers cfg addr first last) = entrySpan 0 (alone cfg) (alone addr) 0 ≡ record { low = first; high = last + 1 }
-Right (mapped cfgs addrs ranges) = rangesOf (entrySpan 0 cfgs addrs) ≡ ranges
 Right (counted cfgs addrs n) = length (rangesOf (entrySpan 0 cfgs addrs)) ≡ n
 Right (decided cfgs addrs address size entry) = (mode : Mode) (access : Access) → decider (checked 0 cfgs addrs mode access address size) ≡ entry
 Right (satp held op operand value) = satpOperated held op operand ≡ value
@@ -92,6 +89,10 @@ Right (leaves r step register value) = register (stepRule (record { registers = 
 abbrev pub AllRight : List Setting → Type 0
 AllRight [] = Unit {0}
 AllRight (s ∷ settings) = Right s × AllRight settings
+
+-- with a grain of 4 bytes
+abbrev pub mapped : List ℕ → List ℕ → List Range → Setting
+mapped cfgs addrs ranges = mappedBy 0 cfgs addrs ranges
 
 -- configuration bytes with R, W and X
 abbrev pub tor : ℕ
@@ -196,7 +197,7 @@ settings =
     ∷ satp 0x8000000000000001 Set 0x4000000000000002 0x8000000000000001
     ∷ satp 0x8000000000000003 Clear 0x8000000000000001 0x0000000000000002
     ∷ satp 0x8000000000000003 Read 0 0x8000000000000003
-    -- [9], G of 1, a grain of 8 bytes: TOR's bounds without their lowest bit, whatever A is before, so that two of one grain match nothing
+    -- [9], G of 1, a grain of 8 bytes: TOR's bounds without their lowest bit, whatever A is before; bounds that lie in one grain match nothing
     ∷ second 1 0 3 tor 5 8 15
     ∷ second 1 napot 3 tor 4 8 15
     ∷ mappedBy 1 (0 ∷ tor ∷ replicate 14 0) (2 ∷ 3 ∷ replicate 14 0) (range 0 (2 ^ 56 - 1) none ∷ [])
@@ -204,13 +205,14 @@ settings =
     ∷ addressed 1 0 0x7 Read 0 0x6 0x7
     ∷ addressed 1 tor 0x7 Read 0 0x6 0x7
     ∷ addressed 1 napot 0x6 Read 0 0x6 0x6
-    -- A=2 leaves a byte, each for itself, as made by set or clear, and after the lock; with G of 0 it is taken
+    -- A=2 leaves a whole byte, each for itself, as made by set or clear; with G of 0 it is taken; a locked byte stays as before
     ∷ configured 1 0x0F08 Write 0x1F17 0x1F08
     ∷ configured 1 0x08 Set 0x10 0x18
     ∷ configured 1 0x00 Set 0x17 0x00
     ∷ configured 1 0x1F Clear 0x08 0x1F
     ∷ configured 0 0x1F Clear 0x08 0x17
-    ∷ configured 1 0x98 Write 0x1F17 0x1F98
+    ∷ configured 1 0x00 Write 0x97 0x00
+    ∷ configured 1 0x98 Write 0x1F0F 0x1F98
     -- G of 2, 16 bytes: set and clear start from what is read, and a write stores all bits
     ∷ second 2 0 0 napot 0 0 15
     ∷ second 2 0 0 napot 6 0 63
@@ -224,15 +226,18 @@ settings =
     ∷ addressed 2 napot 0x4 Set 0x8 0x5 0xD
     ∷ addressed 2 napot 0x6 Clear 0x4 0x7 0x3
     ∷ addressed 2 tor 0x7 Write 0x3 0x4 0x3
-    -- G of 10, 4,096 bytes; all ones, with A=0, read with bit G lowest
+    -- G of 10, 4,096 bytes, up to the end of memory; all ones, stored with A=0, read with bit G the lowest one set
     ∷ second 10 0 0 napot 0 0 0xFFF
     ∷ second 10 0 0 napot 0x240 0 0x1FFF
     ∷ second 10 napot 0x7FF tor 0xFFF 0x1000 0x2FFF
+    ∷ second 10 0 0 tor (2 ^ 54 - 1) 0 (2 ^ 56 - 0x1001)
+    ∷ second 10 0 0 napot (2 ^ 54 - 1) 0 (2 ^ 56 - 1)
+    ∷ mappedBy 10 (alone tor) (alone 0x3FF) (range 0 (2 ^ 56 - 1) none ∷ [])
     ∷ addressed 10 0 0 Write (2 ^ 64 - 1) 0 (2 ^ 54 - 1)
     ∷ addressed 10 0 (2 ^ 54 - 1) Read 0 (2 ^ 54 - 2 ^ 10) (2 ^ 54 - 1)
     ∷ addressed 10 napot 0 Read 0 0x1FF 0
     ∷ configured 10 0x18 Clear 0x18 0x00
-    -- a G above 10 counts as 0
+    -- reading and matching take a G above 10 as 0
     ∷ second 11 0 3 tor 5 12 19
     ∷ addressed 11 0 0x7 Read 0 0x7 0x7
     ∷ []

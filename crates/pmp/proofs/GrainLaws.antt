@@ -8,8 +8,8 @@ use lib.Bits.{bitAnd, bitOr, and-mask, or-add-and}
 use native.Mathlib.Omega.{arith}
 use lib.Dec.{ltb}
 use lib.Pow.{pow-pos}
-use borrow.Author.Tests.{ltb-true}
-use Rattle.pmp.specs.Entry.{spanOf, knownGrain, lowZeros, lowOnes, addressRead, spanRead}
+use borrow.Author.Tests.{lt-ltb, ltb-true}
+use Rattle.pmp.specs.Entry.{spanOf, legalGrain, lowZeros, lowOnes, addressRead, spanRead}
 
 pub zeros-fit : (n word : ℕ) → word < 2 ^ 64 → word / 2 ^ n * 2 ^ n % 2 ^ 64 ≡ lowZeros n word
 zeros-fit n word h = let l : word / 2 ^ n * 2 ^ n ≤ word = div-mul-le-self word (2 ^ n) in omega arith
@@ -46,10 +46,13 @@ bound-stored before = omega arith
 pub span-stored : (a addr before : ℕ) → spanRead 0 a addr before ≡ spanOf a addr before
 span-stored a addr before = λ j. spanOf a (read-stored a addr j) (bound-stored before j)
 
--- ---- a grain above 10
+-- ---- the grain as it counts
 
-pub known-bound : (g : ℕ) → knownGrain g < 11
-known-bound g = go (ltb g 11) refl
+pub legal-small : (g : ℕ) → g < 11 → legalGrain g ≡ g
+legal-small g h = rw (lt-ltb g 11 h)
+
+pub legal-bound : (g : ℕ) → legalGrain g < 11
+legal-bound g = go (ltb g 11) refl
   where
     go : (b : Bool) → ltb g 11 ≡ b → cond b g 0 < 11
     go true e = ltb-true g 11 e

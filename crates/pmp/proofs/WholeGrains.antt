@@ -9,8 +9,9 @@ use lib.Dec.{leb, ltb, eqb}
 use lib.Pow.{pow-add, pow-pos}
 use borrow.Author.Tests.{le-leb, lt-leb, lt-ltb, le-ltb}
 use Rattle.pmp.specs.declared.Span.{Span}
-use Rattle.pmp.specs.Entry.{top, trailingOnes, spanOf, knownGrain, lowZeros, lowOnes, addressRead, spanRead, contains}
+use Rattle.pmp.specs.Entry.{top, trailingOnes, spanOf, legalGrain, lowZeros, lowOnes, addressRead, spanRead, contains}
 use Rattle.pmp.proofs.EntryLaws.{ones-room}
+use Rattle.pmp.proofs.GrainLaws.{legal-small}
 use Rattle.pmp.proofs.GrainBits.{Filled, ones, next}
 
 -- n is a multiple of d
@@ -94,8 +95,8 @@ unfolding spanOf addressRead
 span-whole g zero addr before h na4 = record { low = record { times = 0; is = omega arith }; high = record { times = 0; is = omega arith } }
 span-whole g (suc zero) addr before h na4 =
     let d = 2 ^ (g + 2) in
-    let z : (word : ℕ) → Multiple d (min (4 * lowZeros (knownGrain g) word) top) =
-    λ word. rw (lt-ltb g 11 h) (least d (4 * lowZeros g word) top (words g (lowZeros g word) (zeros-whole g word)) (top-whole g h)) in
+    let z : (word : ℕ) → Multiple d (min (4 * lowZeros (legalGrain g) word) top) =
+    λ word. rw (legal-small g h) (least d (4 * lowZeros g word) top (words g (lowZeros g word) (zeros-whole g word)) (top-whole g h)) in
     record { low = z before; high = z addr }
 span-whole g (suc (suc zero)) addr before h na4 =
     let e : g ≡ 0 = na4 refl in
@@ -114,7 +115,7 @@ span-whole g (suc (suc (suc a))) addr before h na4 =
     let first : Multiple d (4 * (w - (2 ^ t - 1))) = words g (w - (2 ^ t - 1)) (first-word 64 g w (omega arith) (omega (arith, c))) in
     let size : Multiple d (2 ^ (t + 3)) = powers (g + 2) (t + 3) (omega (arith, c)) in
     let set : 2 ≤ suc (suc (suc a)) = omega arith in
-    rw (lt-ltb g 11 h, le-ltb (suc (suc (suc a))) 2 set)
+    rw (legal-small g h, le-ltb (suc (suc (suc a))) 2 set)
     (record {
       low = least d (4 * (w - (2 ^ t - 1))) top first (top-whole g h);
       high = least d (4 * (w - (2 ^ t - 1)) + 2 ^ (t + 3)) top (sum d (4 * (w - (2 ^ t - 1))) (2 ^ (t + 3)) first size) (top-whole g h);

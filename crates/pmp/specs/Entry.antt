@@ -42,9 +42,13 @@ fieldA cfg = cfg / 8 % 4
 abbrev pub locked : ℕ → Bool
 locked cfg = eqb (cfg / 128) 1
 
--- 02, [9]: G is 0 to 10, and one above 10 counts as 0
-abbrev pub knownGrain : ℕ → ℕ
-knownGrain g = cond (ltb g 11) g 0
+-- 02, [9]: "G, 0 to 10"
+abbrev pub grainHoldable : ℕ → Bool
+grainHoldable g = ltb g 11
+
+-- "making a hart and step 0 turn a G above 10 into 0"; reading and matching take one as 0 too, in a state that no other step accepts
+abbrev pub legalGrain : ℕ → ℕ
+legalGrain g = cond (grainHoldable g) g 0
 
 -- a word with its n lowest bits zeros
 abbrev pub lowZeros : ℕ → ℕ → ℕ
@@ -56,11 +60,11 @@ lowOnes n word = lowZeros n word + (2 ^ n - 1)
 
 -- 002, what pmpaddr reads: the low G bits zeros where A is OFF or TOR; else, G being 2 or more, the low G-1 bits ones
 unfoldable pub addressRead : ℕ → ℕ → ℕ → ℕ
-addressRead g a addr = cond (ltb a 2) (lowZeros (knownGrain g) addr) (lowOnes (knownGrain g - 1) addr)
+addressRead g a addr = cond (ltb a 2) (lowZeros (legalGrain g) addr) (lowOnes (legalGrain g - 1) addr)
 
 -- an entry matches by what is read; TOR's lower bound is the register before without its low G bits, whatever A is there
 abbrev pub spanRead : ℕ → ℕ → ℕ → ℕ → Span
-spanRead g a addr before = spanOf a (addressRead g a addr) (lowZeros (knownGrain g) before)
+spanRead g a addr before = spanOf a (addressRead g a addr) (lowZeros (legalGrain g) before)
 
 -- pmpaddr(i-1), and 0 for entry 0
 abbrev pub addressBefore : List ℕ → ℕ → ℕ

@@ -3,7 +3,7 @@ use crate::Span;
 use crate::TOP;
 ghost use mathlib.Core.Path.{_≡_};
 ghost use Prim.Native.Nat.{_-_, _*_, _<_, min};
-ghost use Rattle.pmp.specs.Entry.{top, trailingOnes, napot, spanOf, fieldA, knownGrain, lowZeros, lowOnes, addressRead, spanRead, locked, contains};
+ghost use Rattle.pmp.specs.Entry.{top, trailingOnes, napot, spanOf, fieldA, grainHoldable, legalGrain, lowZeros, lowOnes, addressRead, spanRead, locked, contains};
 
 // 2^54: the first word past physical memory.
 const TOP_WORD: u64 = 0x40000000000000;
@@ -71,28 +71,35 @@ fn span_of(cfg: u8, addr: u64, before: u64) -> Span
     }
 }
 
-// The grain as it counts: one above 10 is 0.
-pub fn known_grain(grain: u64) -> u64
-    ensures { λ r. ⌜ r ≡ knownGrain grain ⌝ }
-    ensures { λ r. ⌜ r < 11 ⌝ }
+// Whether a hart can hold this grain.
+pub fn grain_can_hold(grain: u64) -> bool
+    ensures { λ r. ⌜ r ≡ grainHoldable grain ⌝ }
 {
-    if grain < 11 { grain } else { 0 }
+    grain < 11
 }
 
-// An address register without the low bits that TOR ignores.
-pub(crate) fn bound_read(grain: u64, addr: u64) -> u64
-    ensures { λ r. ⌜ r ≡ lowZeros (knownGrain grain) addr ⌝ }
+// The grain, or 0 for one above 10.
+pub fn legal_grain(grain: u64) -> u64
+    ensures { λ r. ⌜ r ≡ legalGrain grain ⌝ }
+    ensures { λ r. ⌜ r < 11 ⌝ }
 {
-    let count = known_grain(grain);
+    if grain_can_hold(grain) { grain } else { 0 }
+}
+
+// What an address register reads where A is 0 or 1, and what TOR takes of the one before: its low G bits are zeros.
+pub(crate) fn zeros_read(grain: u64, addr: u64) -> u64
+    ensures { λ r. ⌜ r ≡ lowZeros (legalGrain grain) addr ⌝ }
+{
+    let count = legal_grain(grain);
     (addr >> count) << count
 }
 
-// An address register with the low bits ones that NAPOT reads so: one fewer than TOR ignores, and none where that is none.
-pub(crate) fn napot_read(grain: u64, addr: u64) -> u64
-    ensures { λ r. ⌜ r ≡ lowOnes (knownGrain grain - 1) addr ⌝ }
+// What an address register reads where A is 2 or 3: its low G-1 bits are ones; with G of 0 or 1 it reads as stored.
+pub(crate) fn ones_read(grain: u64, addr: u64) -> u64
+    ensures { λ r. ⌜ r ≡ lowOnes (legalGrain grain - 1) addr ⌝ }
 {
-    let ignored = (1u64 << known_grain(grain)) - 1;
-    addr | (ignored >> 1)
+    let low = (1u64 << legal_grain(grain)) - 1;
+    addr | (low >> 1)
 }
 
 // What an address register reads, by the A field of its entry.
@@ -100,9 +107,9 @@ pub fn address_read(grain: u64, cfg: u8, addr: u64) -> u64
     ensures { λ r. ⌜ r ≡ addressRead grain (fieldA cfg) addr ⌝ }
 {
     if cfg / 8 % 4 < 2 {
-        bound_read(grain, addr)
+        zeros_read(grain, addr)
     } else {
-        napot_read(grain, addr)
+        ones_read(grain, addr)
     }
 }
 
@@ -111,7 +118,7 @@ pub fn entry_span(grain: u64, cfg: u8, addr: u64, before: u64) -> Span
     ensures { λ r. ⌜ r ≡ spanRead grain (fieldA cfg) addr before ⌝ }
 {
     let read = address_read(grain, cfg, addr);
-    let bound = bound_read(grain, before);
+    let bound = zeros_read(grain, before);
     span_of(cfg, read, bound)
 }
 

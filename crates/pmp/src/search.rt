@@ -1,10 +1,10 @@
 // The lowest entry that matches any byte of an access, and whether it matches all.
 use crate::Found;
 use crate::Span;
-use crate::entry::bound_read;
+use crate::entry::zeros_read;
 use crate::entry::contains;
 use crate::entry::entry_span;
-use crate::entry::napot_read;
+use crate::entry::ones_read;
 use crate::entry::napot_span;
 ghost use mathlib.Core.Path.{_≡_};
 ghost use mathlib.Core.Bool.{true, false, _&&_};
@@ -50,10 +50,10 @@ fn overlapping(
         if a == 0 {
             return apart();
         }
-        if bound_read(grain, addr) <= first {
+        if zeros_read(grain, addr) <= first {
             return apart();
         }
-        if end <= bound_read(grain, before) {
+        if end <= zeros_read(grain, before) {
             return apart();
         }
         return Overlap {
@@ -62,7 +62,7 @@ fn overlapping(
         };
     }
     if a == 2 {
-        let word = napot_read(grain, addr);
+        let word = ones_read(grain, addr);
         if word < first {
             return apart();
         }
@@ -74,7 +74,7 @@ fn overlapping(
             span: entry_span(grain, cfg, addr, before),
         };
     }
-    let span = napot_span(napot_read(grain, addr));
+    let span = napot_span(ones_read(grain, addr));
     Overlap {
         some: (address < span.high) & (span.low < address + size),
         span,

@@ -5,10 +5,10 @@ use mathlib.Core.Bool.{true, _&&_}
 use borrow.Author.Tests.{lt-ltb}
 use Rattle.bits.specs.Lists.{all}
 use Rattle.bits.proofs.Conjunction.{both, join}
-use Rattle.pmp.specs.Entry.{knownGrain}
-use Rattle.pmp.proofs.GrainLaws.{known-bound}
+use Rattle.pmp.specs.Entry.{grainHoldable, legalGrain}
+use Rattle.pmp.proofs.GrainLaws.{legal-bound}
 use Rattle.protection.specs.declared.Pmp.{Pmp}
-use Rattle.protection.specs.Hold.{grainHoldable, configHoldable, addressHoldable, pmpHoldable, resetPmp}
+use Rattle.protection.specs.Hold.{configHoldable, addressHoldable, pmpHoldable, resetPmp}
 
 -- what is known of registers that a hart can hold
 pub record PmpHeld (p : Pmp) : Type 0 where
@@ -29,4 +29,4 @@ pmp-hold p h = join _ _ (h .grain) (join _ _ (h .cfgs) (h .addrs))
 
 pub reset-pmp-held : (g : ℕ) → pmpHoldable (resetPmp g) ≡ true
 unfolding all
-reset-pmp-held g = pmp-hold (resetPmp g) (record { grain = lt-ltb (knownGrain g) 11 (known-bound g); cfgs = refl; addrs = refl })
+reset-pmp-held g = pmp-hold (resetPmp g) (record { grain = lt-ltb (legalGrain g) 11 (legal-bound g); cfgs = refl; addrs = refl })

@@ -10,8 +10,8 @@ use lib.ListN.{replicate}
 use Rattle.bits.specs.Lists.{all}
 use Rattle.bits.proofs.Conjunction.{both, join}
 use Rattle.bits.proofs.BitSolve.{upto-sound}
-use Rattle.pmp.specs.Entry.{fieldA}
 use Rattle.protection.specs.Configs.{packed, unpacked}
+use Rattle.protection.specs.Hold.{configAllowed}
 
 -- tests that pass together are the same
 together : (a b : Bool) → (a ≡ true → b ≡ true) → (b ≡ true → a ≡ true) → a ≡ b
@@ -40,18 +40,14 @@ byte-more a b r s h k =
     let w = both (eqb r s) (eqb a b) e in
     eq-eqb (a * 256 + r) (b * 256 + s) (omega (arith, eqb-true r s (w .0), eqb-true a b (w .1))))
 
--- In a byte bit 0 is set where bit 1 is, and, unless NA4 can be held, bit 3 where bit 4 is: masks 1 and 9.
-
--- configHoldable, by whether NA4 can be held
-abbrev holdable : Bool → ℕ → Bool
-holdable na4 cfg = eqb (bitAnd cfg 0x60) 0 && (not (eqb (bitAnd cfg 3) 2) && not (eqb (fieldA cfg) 2 && not na4))
+-- In a byte bit 0 is set where bit 1 is, and, unless NA4 can be selected, bit 3 where bit 4 is: masks 1 and 9.
 
 abbrev agrees : Bool → ℕ → Bool
-agrees na4 b = agree (eqb (bitAnd b (bitOr (bitAnd (b / 2) (cond na4 1 9)) 0x60)) (bitAnd (b / 2) (cond na4 1 9))) (holdable na4 b)
+agrees na4 b = agree (eqb (bitAnd b (bitOr (bitAnd (b / 2) (cond na4 1 9)) 0x60)) (bitAnd (b / 2) (cond na4 1 9))) (configAllowed na4 b)
 
 -- one byte, by trying all
 byte-held : (na4 : Bool) (byte : ℕ) → byte < 256
-    → eqb (bitAnd byte (bitOr (bitAnd (byte / 2) (cond na4 1 9)) 0x60)) (bitAnd (byte / 2) (cond na4 1 9)) ≡ holdable na4 byte
+    → eqb (bitAnd byte (bitOr (bitAnd (byte / 2) (cond na4 1 9)) 0x60)) (bitAnd (byte / 2) (cond na4 1 9)) ≡ configAllowed na4 byte
 byte-held na4 byte h = agree-eq _ _ (tried na4)
   where
     tried : (na4 : Bool) → agrees na4 byte ≡ true
@@ -80,7 +76,7 @@ pairs-small false = omega arith
 pub word-held : (na4 : Bool) (n word : ℕ)
     → eqb (bitAnd word (bitOr (bitAnd (word / 2) (packed (replicate n (cond na4 1 9)))) (packed (replicate n 0x60))))
     (bitAnd (word / 2) (packed (replicate n (cond na4 1 9))))
-    ≡ all (holdable na4) (unpacked n word)
+    ≡ all (configAllowed na4) (unpacked n word)
 unfolding packed unpacked all
 word-held na4 zero w = rw (and-zero-r (w / 2), and-zero-r w)
 word-held na4 (suc n) w =

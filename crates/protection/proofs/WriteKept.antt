@@ -6,14 +6,13 @@ use mathlib.Core.Logic.{⊎-elim}
 use mathlib.Core.List.{List}
 use native.Mathlib.Omega.{arith}
 use borrow.Author.Tests.{lt-ltb}
-use lib.Bits.{bitAnd}
 use lib.Dec.{eqb}
 use lib.ListN.{getD, set}
 use Rattle.bits.proofs.Conjunction.{contradiction, choose, one-of, neither, by-test}
 use Rattle.bits.proofs.BitSolve.{upto-sound}
 use Rattle.protection.specs.declared.Pmp.{Pmp}
 use Rattle.bits.specs.Lists.{all}
-use Rattle.protection.specs.Hold.{na4Barred, configHoldable, addressHoldable, pmpHoldable}
+use Rattle.protection.specs.Hold.{na4Unselectable, configAllowed, configHoldable, addressHoldable, pmpHoldable}
 use Rattle.bits.proofs.ListLaws.{all-getD, all-set}
 use Rattle.protection.proofs.Held.{pmp-held, pmp-hold}
 use Rattle.pmp.specs.Entry.{fieldA, locked}
@@ -22,27 +21,24 @@ use Rattle.protection.specs.Write.{configKept, configWritten, configsWri
 
 -- ---- a configuration byte
 
--- a byte is barred, or what is kept of it can be held, by whether NA4 can be
+-- NA4 is asked for and cannot be selected, or what is kept of the byte can be held
 abbrev fit : Bool → ℕ → Bool
-fit na4 value =
-    (eqb (fieldA value) 2 && not na4)
-    || (eqb (bitAnd (configKept value) 0x60) 0
-    && (not (eqb (bitAnd (configKept value) 3) 2) && not (eqb (fieldA (configKept value)) 2 && not na4)))
+fit na4 value = (eqb (fieldA value) 2 && not na4) || configAllowed na4 (configKept value)
 
 -- by trying all bytes
 all-fit : (na4 : Bool) (value : ℕ) → value < 256 → fit na4 value ≡ true
 all-fit true value h = upto-sound 256 (fit true) refl value h
 all-fit false value h = upto-sound 256 (fit false) refl value h
 
--- a byte that is not barred is kept as one that can be held
-config-kept : (g value : ℕ) → value < 256 → na4Barred g value ≡ false → configHoldable g (configKept value) ≡ true
+-- a byte that does not ask for it is kept as one that can be held
+config-kept : (g value : ℕ) → value < 256 → na4Unselectable g value ≡ false → configHoldable g (configKept value) ≡ true
 config-kept g value h e =
-    ⊎-elim (λ b. contradiction b e) (λ k. k) (one-of (na4Barred g value) (configHoldable g (configKept value)) (all-fit (eqb g 0) value h))
+    ⊎-elim (λ b. contradiction b e) (λ k. k) (one-of (na4Unselectable g value) (configHoldable g (configKept value)) (all-fit (eqb g 0) value h))
 
 pub config-written-kept : (g old value : ℕ) → value < 256 → configHoldable g old ≡ true → configHoldable g (configWritten g old value) ≡ true
 config-written-kept g old value h p =
-    by-test (λ (cfg : ℕ). configHoldable g cfg ≡ true) (locked old || na4Barred g value) old (configKept value) (λ t. p)
-    (λ t. config-kept g value h (neither (locked old) (na4Barred g value) t .1))
+    by-test (λ (cfg : ℕ). configHoldable g cfg ≡ true) (locked old || na4Unselectable g value) old (configKept value) (λ t. p)
+    (λ t. config-kept g value h (neither (locked old) (na4Unselectable g value) t .1))
 
 pub configs-written-kept : (g n at value : ℕ) (cfgs : List ℕ) → all (configHoldable g) cfgs ≡ true
     → all (configHoldable g) (configsWritten g n at value cfgs) ≡ true

@@ -7,7 +7,7 @@ use lib.Dec.{eqb}
 use lib.ListN.{getD, set}
 use Rattle.pmp.specs.Entry.{fieldA, locked}
 use Rattle.protection.specs.declared.Pmp.{Pmp}
-use Rattle.protection.specs.Hold.{na4Barred}
+use Rattle.protection.specs.Hold.{na4Unselectable}
 use Rattle.protection.specs.Read.{isAddress}
 
 -- bits 5 and 6 are dropped; W is stored 0 where R is 0 (house)
@@ -16,7 +16,7 @@ configKept value = cond (eqb (value % 2) 0) (bitAnd value 0x9D) (bitAnd value 0x
 
 -- a locked entry's byte ignores writes, and any byte one of A=2 where no hart can hold that (house)
 abbrev pub configWritten : ℕ → ℕ → ℕ → ℕ
-configWritten g old value = cond (locked old || na4Barred g value) old (configKept value)
+configWritten g old value = cond (locked old || na4Unselectable g value) old (configKept value)
 
 -- n bytes from entry `at` on, each judged for itself, the lowest byte of the value first
 unfoldable pub configsWritten : ℕ → ℕ → ℕ → ℕ → List ℕ → List ℕ

@@ -1,4 +1,4 @@
-// What a hart can hold, and what reset gives. These tests run at every step and do not branch.
+// What a hart can hold, and what reset gives.
 use crate::Pmp;
 ghost use mathlib.Core.Path.{_≡_};
 ghost use mathlib.Core.Bool.{cond, _&&_};
@@ -8,16 +8,11 @@ ghost use Rattle.bits.specs.Lists.{all};
 ghost use Rattle.bits.specs.Same.{sameList};
 ghost use Rattle.protection.specs.Arrays.{Arrays};
 ghost use Rattle.protection.specs.Configs.{packed, unpacked, configsOf};
-ghost use Rattle.protection.specs.Hold.{grainHoldable, configHoldable, addressHoldable, resetPmp};
+ghost use Rattle.protection.specs.Hold.{configHoldable, addressHoldable, resetPmp};
 ghost use Rattle.protection.specs.Same.{samePmp};
 
-pub fn grain_can_hold(grain: u64) -> bool
-    ensures { λ r. ⌜ r ≡ grainHoldable grain ⌝ }
-{
-    grain < 11
-}
-
-// The bits of eight configuration bytes that are set where the next higher one is: R where W is, and A[0] where A[1] is unless NA4 can be held.
+// The bits of eight configuration bytes that must be 1 where the next higher bit is: R where W is 1; with G of 1 or more also A[0] where A[1] is 1, which leaves
+// out A=2.
 fn set_by_next(grain: u64) -> u64
     ensures { λ r. ⌜ r ≡ packed (replicate 8 (cond (eqb grain 0) 1 9)) ⌝ }
 {
@@ -28,7 +23,7 @@ fn set_by_next(grain: u64) -> u64
     }
 }
 
-// Eight configuration bytes at once: in each, bits 5 and 6 are zero, and bits are set as the next higher ones ask.
+// Eight configuration bytes at once: in each, bits 5 and 6 are 0, and no bit is 0 that must be 1.
 fn word_can_hold(grain: u64, word: u64) -> bool
     ensures { λ r. ⌜ r ≡ all (configHoldable grain) (unpacked 8 word) ⌝ }
 {
@@ -61,7 +56,7 @@ pub fn reset(grain: u64) -> Pmp
     ensures { λ r. ⌜ r ≡ resetPmp grain ⌝ }
 {
     Pmp {
-        grain: pmp::known_grain(grain),
+        grain: pmp::legal_grain(grain),
         cfgs: [0; 16],
         addrs: [0; 16],
     }

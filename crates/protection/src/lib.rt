@@ -9,7 +9,6 @@ pub use configs::pmpcfg0;
 pub use configs::pmpcfg2;
 pub use hold::addresses_can_hold;
 pub use hold::configs_can_hold;
-pub use hold::grain_can_hold;
 pub use hold::reset;
 pub use hold::same;
 pub use hold::typed;

@@ -5,12 +5,12 @@ use pmp::is_locked;
 ghost use mathlib.Core.Path.{_≡_};
 ghost use Prim.Native.Nat.{_+_, _≤_, _<_};
 ghost use lib.ListN.{getD};
-ghost use Rattle.protection.specs.Hold.{na4Barred};
+ghost use Rattle.protection.specs.Hold.{na4Unselectable};
 ghost use Rattle.protection.specs.Write.{configWritten, configsWritten, addressFrozen, addressWritten, pmpWritten};
 
 // Whether a byte has A=2 where no hart can hold that.
-fn is_na4_barred(grain: u64, cfg: u8) -> bool
-    ensures { λ r. ⌜ r ≡ na4Barred grain cfg ⌝ }
+fn is_unselectable(grain: u64, cfg: u8) -> bool
+    ensures { λ r. ⌜ r ≡ na4Unselectable grain cfg ⌝ }
 {
     (cfg / 8 % 4 == 2) & (grain != 0)
 }
@@ -19,7 +19,7 @@ fn is_na4_barred(grain: u64, cfg: u8) -> bool
 fn config_written(grain: u64, old: u8, value: u8) -> u8
     ensures { λ r. ⌜ r ≡ configWritten grain old value ⌝ }
 {
-    if is_locked(old) | is_na4_barred(grain, value) {
+    if is_locked(old) | is_unselectable(grain, value) {
         return old;
     }
     if value % 2 == 0 {

@@ -11,8 +11,9 @@ use Rattle.bits.proofs.Conjunction.{join}
 use Rattle.bits.proofs.ListLaws.{elements-take}
 use Rattle.registers.specs.Hold.{registersHoldable}
 use Rattle.registers.proofs.Held.{reset-held}
+use Rattle.pmp.specs.Entry.{grainHoldable}
 use Rattle.protection.specs.Configs.{configsOf}
-use Rattle.protection.specs.Hold.{grainHoldable, configHoldable, addressHoldable, pmpHoldable}
+use Rattle.protection.specs.Hold.{configHoldable, addressHoldable, pmpHoldable}
 use Rattle.protection.proofs.Held.{reset-pmp-held}
 use Rattle.paging.specs.Satp.{satpHoldable}
 use Rattle.state.specs.declared.State.{State}

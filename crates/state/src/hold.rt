@@ -19,7 +19,7 @@ pub fn words_can_hold(words: &[u64]) -> bool
     let configs = protection::configs_can_hold(grain, words[places::PMPCFG0], words[places::PMPCFG2]);
     let addresses = protection::addresses_can_hold(&words[places::PMPADDR0..places::SATP]);
     let satp = paging::satp_can_hold(words[places::SATP]);
-    registers & ((protection::grain_can_hold(grain) & (configs & addresses)) & satp)
+    registers & ((pmp::grain_can_hold(grain) & (configs & addresses)) & satp)
 }
 
 // Whether a hart can hold this state.

@@ -7,11 +7,11 @@ use Rattle.pmp.proofs.entry.address_read.Tie as tie
 
 returns : tie.Need-returns
 unfolding addressRead
-returns c = rw (lt-ltb _ _ (c .before .if1 .taken)) (c .bound-read .ensures)
+returns c = rw (lt-ltb _ _ (c .before .if1 .taken)) (c .zeros-read .ensures)
 
 returns-2 : tie.Need-returns-2
 unfolding addressRead
-returns-2 c = rw (le-ltb _ _ (c .before .if1 .left)) (c .napot-read .ensures)
+returns-2 c = rw (le-ltb _ _ (c .before .if1 .left)) (c .ones-read .ensures)
 
 pub address-read-spec : {M : Type 1} → statement M
 address-read-spec = tie.close (tie.spec (λ c κs. search needs) (λ c κs. search needs) returns returns-2)

@@ -7,7 +7,7 @@ use lib.Dec.{ltb}
 use borrow.Author.Needs.{needs}
 use borrow.Author.Tests.{lt-ltb, le-ltb}
 use Rattle.pmp.specs.declared.Span.{Span}
-use Rattle.pmp.specs.Entry.{trailingOnes, napot, spanOf, fieldA, knownGrain, lowZeros, addressRead, spanRead}
+use Rattle.pmp.specs.Entry.{trailingOnes, napot, spanOf, fieldA, legalGrain, lowZeros, addressRead, spanRead}
 use Rattle.pmp.proofs.EntryLaws.{overlaps, off-overlaps, tor-overlaps, na4-overlaps}
 use Rattle.pmp.proofs.search.overlapping.Statement.{statement}
 use Rattle.pmp.proofs.search.overlapping.Tie as tie
@@ -31,8 +31,8 @@ returns c =
     (c .apart .ensures ∙ tested s 0 k false (off-overlaps (a .address) (a .size) _ _), none (c .apart .ensures))
 
 -- TOR, and NA4, by the tests of the words that are read
-tor : (c : tie.After-bound-read) {bound : ℕ} → let s = c .before .before .before in bound ≡ lowZeros (knownGrain (s .args .grain)) (s .args .before)
-    → (b : Bool) → (ltb (s .args .address / 4) (c .bound-read .result) && ltb bound ((s .args .address + s .args .size + 3) / 4)) ≡ b
+tor : (c : tie.After-zeros-read) {bound : ℕ} → let s = c .before .before .before in bound ≡ lowZeros (legalGrain (s .args .grain)) (s .args .before)
+    → (b : Bool) → (ltb (s .args .address / 4) (c .zeros-read .result) && ltb bound ((s .args .address + s .args .size + 3) / 4)) ≡ b
     → b ≡ overlaps (spanRead (s .args .grain) (fieldA (s .args .cfg)) (s .args .addr) (s .args .before)) (s .args .address) (s .args .size)
 unfolding addressRead
 tor c lower b t =
@@ -40,11 +40,11 @@ tor c lower b t =
     let a = s .args in
     let k : fieldA (a .cfg) ≡ 1 = omega arith in
     tested s 1 k b
-    ((λ j. overlaps (spanOf 1 (sym (c .bound-read .ensures) j) (sym lower j)) (a .address) (a .size)) ∙ tor-overlaps (a .address) (a .size) _ _ (s .pre .0) (s .pre .1)
+    ((λ j. overlaps (spanOf 1 (sym (c .zeros-read .ensures) j) (sym lower j)) (a .address) (a .size)) ∙ tor-overlaps (a .address) (a .size) _ _ (s .pre .0) (s .pre .1)
     ∙ t)
 
-na4 : (c : tie.After-napot-read) (b : Bool) → let s = c .before .before .before in
-    (ltb (s .args .address / 4) (c .napot-read .result + 1) && ltb (c .napot-read .result) ((s .args .address + s .args .size + 3) / 4)) ≡ b
+na4 : (c : tie.After-ones-read) (b : Bool) → let s = c .before .before .before in
+    (ltb (s .args .address / 4) (c .ones-read .result + 1) && ltb (c .ones-read .result) ((s .args .address + s .args .size + 3) / 4)) ≡ b
     → b ≡ overlaps (spanRead (s .args .grain) (fieldA (s .args .cfg)) (s .args .addr) (s .args .before)) (s .args .address) (s .args .size)
 unfolding addressRead
 na4 c b t =
@@ -52,7 +52,7 @@ na4 c b t =
     let a = s .args in
     let k : fieldA (a .cfg) ≡ 2 = omega arith in
     tested s 2 k b
-    ((λ j. overlaps (spanOf 2 (sym (c .napot-read .ensures) j) (lowZeros (knownGrain (a .grain)) (a .before))) (a .address) (a .size))
+    ((λ j. overlaps (spanOf 2 (sym (c .ones-read .ensures) j) (lowZeros (legalGrain (a .grain)) (a .before))) (a .address) (a .size))
     ∙ na4-overlaps (a .address) (a .size) _ _ (s .pre .0) (s .pre .1)
     ∙ t)
 
@@ -64,23 +64,23 @@ returns-3 : tie.Need-returns-3
 returns-3 c =
     let l = c .before .before in
     let e = l .before in
-    (c .apart3 .ensures ∙ tor (e .before) (l .bound-read2 .ensures) false (rw (lt-ltb _ _ (e .if3 .left), le-ltb _ _ (c .before .if4 .taken))), none (c .apart3 .ensures))
+    (c .apart3 .ensures ∙ tor (e .before) (l .zeros-read2 .ensures) false (rw (lt-ltb _ _ (e .if3 .left), le-ltb _ _ (c .before .if4 .taken))), none (c .apart3 .ensures))
 
 returns-4 : tie.Need-returns-4
 returns-4 c =
     let l = c .before .before in
     let e = l .before in
-    (tor (e .before) (l .bound-read2 .ensures) true (rw (lt-ltb _ _ (e .if3 .left), lt-ltb _ _ (c .before .if4 .left))), λ t. c .entry-span .ensures)
+    (tor (e .before) (l .zeros-read2 .ensures) true (rw (lt-ltb _ _ (e .if3 .left), lt-ltb _ _ (c .before .if4 .left))), λ t. c .entry-span .ensures)
 
 returns-5 : tie.Need-returns-5
 returns-5 c =
     let r = c .before .before in
     let s = r .before .before .before in
-    let h : r .napot-read .result + 1 ≤ s .args .address / 4 = omega (arith, c .before .if6 .taken) in
+    let h : r .ones-read .result + 1 ≤ s .args .address / 4 = omega (arith, c .before .if6 .taken) in
     (c .apart4 .ensures ∙ na4 r false (rw (le-ltb _ _ h)), none (c .apart4 .ensures))
 
 -- the entry's word is no earlier than the first of the access
-begins : (c : tie.Else6) → c .before .before .before .before .args .address / 4 < c .before .napot-read .result + 1
+begins : (c : tie.Else6) → c .before .before .before .before .args .address / 4 < c .before .ones-read .result + 1
 begins c = omega (arith, c .if6 .left)
 
 returns-6 : tie.Need-returns-6
@@ -100,7 +100,7 @@ unfolding spanOf addressRead
 whole c =
     let a = c .before .before .before .before .args in
     let k : 3 ≡ fieldA (a .cfg) = omega arith in
-    c .napot-span .ensures ∙ ap (λ (w : ℕ). napot w (trailingOnes 64 w)) (c .before .napot-read2 .ensures)
+    c .napot-span .ensures ∙ ap (λ (w : ℕ). napot w (trailingOnes 64 w)) (c .before .ones-read2 .ensures)
     ∙ ap (λ (n : ℕ). spanRead (a .grain) n (a .addr) (a .before)) k
 
 returns-8 : tie.Need-returns-8

@@ -3,13 +3,13 @@ use mathlib.Core.Bool.{_||_}
 use borrow.Author.Tests.{eq-eqb, ne-eqb}
 use borrow.Author.Needs.{needs}
 use Rattle.pmp.specs.Entry.{locked}
-use Rattle.protection.specs.Hold.{na4Barred}
+use Rattle.protection.specs.Hold.{na4Unselectable}
 use Rattle.protection.proofs.write.config_written.Statement.{statement}
 use Rattle.protection.proofs.write.config_written.Tie as tie
 
 -- whether the byte stays as it is
-stays : (c : tie.After-is-na4-barred) → let a = c .before .before .args in (c .before .is-locked .result || c .is-na4-barred .result) ≡ (locked (a .old) || na4Barred (a .grain) (a .value))
-stays c = λ j. c .before .is-locked .ensures j || c .is-na4-barred .ensures j
+stays : (c : tie.After-is-unselectable) → let a = c .before .before .args in (c .before .is-locked .result || c .is-unselectable .result) ≡ (locked (a .old) || na4Unselectable (a .grain) (a .value))
+stays c = λ j. c .before .is-locked .ensures j || c .is-unselectable .ensures j
 
 returns : tie.Need-returns
 returns c = rw (sym (stays (c .before)) ∙ c .if1 .taken)
