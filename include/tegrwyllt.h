@@ -106,8 +106,8 @@ uint64_t tegrwyllt_query(const uint64_t *hart, size_t hart_length,
 
 /*
  * Writes the hart's text to the first 1027 bytes of a buffer. Gives 0; or the
- * refusal's number, 3, 6 or 12 (satp, SUM, a wide medeleg or a grain has no place in
- * the text); or TEGRWYLLT_MISFIT. Unless 0, nothing is changed.
+ * refusal's number, 3, 6 or 12 (satp, SUM, a wide medeleg or a G other than 0 has no
+ * place in the text); or TEGRWYLLT_MISFIT. Unless 0, nothing is changed.
  */
 uint64_t tegrwyllt_save(const uint64_t *hart, size_t hart_length,
                         uint8_t *text, size_t text_length);

@@ -34,7 +34,7 @@ static int answers(const uint64_t *answer, uint64_t kind, uint64_t value, uint64
 
 /* Harts made with a grain, and protection by 16 bytes, G being 2. */
 static void grains(void) {
-    uint64_t hart[HART], map[MAP], answer[ANSWER], given[24];
+    uint64_t hart[HART], map[MAP], answer[ANSWER], given[28];
     uint8_t text[TEXT];
     memset(hart, 0x55, sizeof hart);
     memset(map, 0x55, sizeof map);
@@ -48,11 +48,11 @@ static void grains(void) {
 
     /* All ones in pmpaddr0: what is read ends in 00 under OFF, and in 11 under NAPOT. A=2 is left out. */
     const uint64_t ones = (UINT64_C(1) << 54) - 1;
-    const uint64_t steps[] = {1, 0x3B0, ones, 4, 0x3B0, 0, 1, 0x3A0, 0x10, 1, 0x3A0, 0x18, 4, 0x3B0, 0, 1, 0x3B0, 4};
-    expect(tegrwyllt_run(hart, HART, map, MAP, none, 0, 0, steps, 18, given, 24) == 1, "a run with a grain");
+    const uint64_t steps[] = {1, 0x3B0, ones, 4, 0x3B0, 0, 1, 0x3A0, 0x18, 1, 0x3A0, 0x17, 4, 0x3A0, 0, 4, 0x3B0, 0, 1, 0x3B0, 4};
+    expect(tegrwyllt_run(hart, HART, map, MAP, none, 0, 0, steps, 21, given, 28) == 1, "a run with a grain");
     expect(answers(given + 4, 1, ones - 3, 0, 0), "the low two bits read as zeros");
-    expect(answers(given + 12, 1, 0, 0, 0), "A=2 left the byte as it was");
-    expect(answers(given + 16, 1, ones, 0, 0), "the stored value is kept");
+    expect(answers(given + 16, 1, 0x18, 0, 0), "A=2 left the byte as it was");
+    expect(answers(given + 20, 1, ones, 0, 0), "the stored value is kept");
     expect(hart[25] == 4 && map[0] == 3 && map[4] == 0x10 && map[5] == 0x1F && map[6] == 0, "NAPOT 4 reads 5: 16 bytes");
     expect(tegrwyllt_query(hart, HART, map, MAP, 1, 1, 0x18, 8, answer, ANSWER) == 1 && answers(answer, 6, 5, 0, 0), "entry 0 denies S there");
     expect(tegrwyllt_save(hart, HART, text, TEXT) == 12, "a grain has no place in the text: refusal 12");

@@ -4,13 +4,10 @@ use mathlib.Core.Path.{_≡_, ap, _∙_}
 use mathlib.Core.Bool.{true, false}
 use mathlib.Core.List.{List}
 use Rattle.state.specs.Words.{wordsOf}
-use Rattle.state.specs.Slices.{stored}
-use Rattle.state.proofs.SliceLaws.{all-stored}
 use Rattle.map.specs.MapWords.{mapWords}
 use Rattle.hart.specs.declared.Mapped.{Mapped}
 use Rattle.hart.specs.Steps.{resetMapped}
 use Rattle.capi.specs.Calls.{fits, makeResult, madeHart, madeMap}
-use Rattle.capi.proofs.CallLaws.{fitting}
 
 -- what the call gives back, and leaves as hart and as map
 abbrev Made : ℕ → List ℕ → List ℕ → ℕ → List ℕ → List ℕ → Type 0
@@ -21,13 +18,13 @@ module _ (grain : ℕ) (hart map : List ℕ) where
   unfolding makeResult madeHart madeMap
   not-made e = (rw e, (rw e, rw e))
 
-  pub made : fits hart map ≡ true → {x : Mapped} → x ≡ resetMapped grain → {h m : List ℕ} → h ≡ stored (x .hart .state) hart → m ≡ mapWords (x .map)
+  pub made : fits hart map ≡ true → {x : Mapped} → x ≡ resetMapped grain → {h m : List ℕ} → h ≡ wordsOf (x .hart .state) → m ≡ mapWords (x .map)
       → Made grain hart map 1 h m
   unfolding makeResult madeHart madeMap
   made t {x} e p q = (
     rw t,
     (
-      rw t (p ∙ all-stored hart (fitting hart map t .0) (x .hart .state) ∙ ap (λ (y : Mapped). wordsOf (y .hart .state)) e),
+      rw t (p ∙ ap (λ (y : Mapped). wordsOf (y .hart .state)) e),
       rw t (q ∙ ap (λ (y : Mapped). mapWords (y .map)) e),
     ),
   )

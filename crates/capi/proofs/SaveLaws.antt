@@ -13,9 +13,9 @@ use Rattle.steps.specs.Number.{refusalOf}
 use Rattle.state.specs.declared.State.{State}
 use Rattle.state.specs.Words.{wordsOf}
 use Rattle.state.specs.Texts.{textState}
-use Rattle.state.specs.Slices.{loaded, stored}
+use Rattle.state.specs.Slices.{loaded}
 use Rattle.state.proofs.Back.{words-back}
-use Rattle.state.proofs.SliceLaws.{all-loaded, all-stored}
+use Rattle.state.proofs.SliceLaws.{all-loaded}
 use Rattle.map.specs.declared.Map.{Map}
 use Rattle.map.specs.MapWords.{mapOfWords, mapWords}
 use Rattle.map.proofs.MapWords.{map-words-back}
@@ -112,13 +112,13 @@ module _ (text hart map : List ℕ) where
           ),
         )
 
-    pub restore-done : r ≡ 0 → {h m : List ℕ} → h ≡ stored (s .hart .state) hart → m ≡ mapWords (s .map) → Restored text hart map 0 h m
+    pub restore-done : r ≡ 0 → {h m : List ℕ} → h ≡ wordsOf (s .hart .state) → m ≡ mapWords (s .map) → Restored text hart map 0 h m
     unfolding restoreResult restoredHart restoredMap
     restore-done z p q =
         let d : s ≡ readBack text hart map = e ∙ read-done g (hartOf hart) empty (mapOfWords map) text (sym given-number ∙ z) in (
           rw t (sym z ∙ number),
           (
-            rw t (p ∙ all-stored hart (fitting hart map t .0) (s .hart .state) ∙ ap (λ (x : Stepped). wordsOf (x .hart .state)) d),
+            rw t (p ∙ ap (λ (x : Stepped). wordsOf (x .hart .state)) d),
             rw t (q ∙ ap (λ (x : Stepped). mapWords (x .map)) d),
           ),
         )

@@ -9,8 +9,11 @@ use map::Range;
 ghost use mathlib.Core.Path.{_≡_};
 ghost use mathlib.Core.Bool.{_&&_};
 ghost use lib.Dec.{eqb, leb};
+ghost use lib.ListN.{length};
 ghost use Rattle.pmp.specs.Number.{isMode};
 ghost use Rattle.paging.specs.Memory.{memoryAt};
+ghost use Rattle.state.specs.Words.{wordsOf};
+ghost use Rattle.map.specs.MapWords.{mapWords};
 ghost use Rattle.capi.specs.Calls.{makeResult, madeHart, madeMap, stepCall, runCall, queryResult, queryAnswered, saveResult, savedText, restoreResult, restoredHart, restoredMap};
 
 fn fit(hart: usize, map: usize) -> bool
@@ -25,6 +28,17 @@ fn queryable(mode: u64, kind: u64) -> bool
     pmp::is_mode(mode) & (kind <= 2)
 }
 
+// Writes a hart and a map as words.
+fn put(given: Hart, whole: Map, hart: &mut [u64], map: &mut [u64])
+    requires { ⌜ (length (now hart) ≡ 43) × (length (now map) ≡ 100) ⌝ }
+    ensures { λ _. ⌜ now (hart .exit) ≡ wordsOf (given .state) ⌝ }
+    ensures { λ _. ⌜ now (map .exit) ≡ mapWords whole ⌝ }
+{
+    let state = given.state;
+    state::store(state, hart);
+    maps::store_map(whole, map);
+}
+
 // Makes a hart as after reset, with a grain, and its map. 1, or 0 where a length is another.
 #[no_mangle]
 pub extern "C" fn tegrwyllt_make(grain: u64, hart: &mut [u64], map: &mut [u64]) -> u64
@@ -37,10 +51,8 @@ pub extern "C" fn tegrwyllt_make(grain: u64, hart: &mut [u64], map: &mut [u64]) 
     }
     let made = Hart::reset(grain);
     let fresh = made.hart;
-    let state = fresh.state;
-    state::store(state, hart);
-    let whole = made.map;
-    maps::store_map(whole, map);
+    let fresh_map = made.map;
+    put(fresh, fresh_map, hart, map);
     1
 }
 
@@ -164,9 +176,7 @@ pub extern "C" fn tegrwyllt_restore(text: &[u8], hart: &mut [u64], map: &mut [u6
         return refusal;
     }
     let after = read.hart;
-    let state = after.state;
-    state::store(state, hart);
-    let fresh = read.map;
-    maps::store_map(fresh, map);
+    let fresh_map = read.map;
+    put(after, fresh_map, hart, map);
     0
 }

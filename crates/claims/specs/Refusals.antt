@@ -1,4 +1,4 @@
--- 01, "Steps", with refusal 7 as 02, [5] widens it, and 12 and 13 of 02, [8]: the table of refusals and its order. A refusal returns its number and no more, and changes nothing.
+-- 01, "Steps", with refusal 7 as 02, [5] widens it, and 12 and 13 of 02, [8] and [9]: the table of refusals and its order. A refusal returns its number and no more, and changes nothing.
 use Prim.Native.Nat.{ℕ, _+_, _*_, _%_, _^_}
 use mathlib.Core.Path.{_≡_}
 use mathlib.Core.Bool.{Bool, true, cond, not, _&&_, _||_}

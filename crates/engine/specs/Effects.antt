@@ -1,4 +1,4 @@
--- 01, "Steps", and 02, [5] and [8]: what each of the eighteen steps does to the state and answers, with the memory lent to it. No map is read.
+-- 01, "Steps", and 02, [5], [8] and [9]: what each of the eighteen steps does to the state and answers, with the memory lent to it. No map is read.
 use Prim.Native.Nat.{ℕ}
 use mathlib.Core.Bool.{Bool, true, false, cond, _||_}
 use lib.Dec.{eqb, ltb}

@@ -1,4 +1,4 @@
--- 01, "Saved text", refusals 3 to 6, and 12 of 02, [8]: saving a hart, and reading a text back.
+-- 01, "Saved text", refusals 3 to 6, and 12 of 02, [8] and [9]: saving a hart, and reading a text back.
 use Prim.Native.Nat.{ℕ}
 use mathlib.Core.Bool.{Bool, cond, _&&_}
 use mathlib.Core.List.{List}

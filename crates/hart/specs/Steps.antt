@@ -1,4 +1,4 @@
--- 01, "Steps", and 02, [8]: a step by a hart takes the state, its map and the memory lent to it, and hands state and map back.
+-- 01, "Steps", and 02, [8] and [9]: a step by a hart takes the state, its map and the memory lent to it, and hands state and map back.
 use Prim.Native.Nat.{ℕ}
 use mathlib.Core.Bool.{cond}
 use mathlib.Core.List.{List}

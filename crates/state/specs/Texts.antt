@@ -8,7 +8,7 @@ use Rattle.registers.specs.Status.{sum}
 use Rattle.state.specs.declared.State.{State}
 use Rattle.state.specs.Words.{stateOf}
 
--- refusal 12 where not, and refusal 5 of a text: satp, SUM and the grain are 0, and medeleg has no bit outside 0x3FF
+-- refusal 12 where not: satp, the grain and SUM are 0, and medeleg has no bit outside 0x3FF. A text, whose satp and grain are 0, is refused by 5 for the others
 unfoldable pub hasText : State → Bool
 hasText s = (eqb (s .satp) 0 && eqb (s .pmp .grain) 0) && (not (sum (s .registers .mstatus)) && within 0x3FF (s .registers .medeleg))
 

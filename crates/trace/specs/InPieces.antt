@@ -65,7 +65,7 @@ pub record InPieces (m : Memory) : Type 0 where
   pub last : (s : Session) (piece : List ℕ) → s .more ≡ true → (length piece ≡ 61440 → ⊥) → afterPiece m s piece .more ≡ false
   -- a session that has ended stays as it is
   pub stays : (s : Session) (piece : List ℕ) → s .more ≡ false → afterPiece m s piece ≡ s
-  -- the one start is the reset state with its map, and nothing read
+  -- the one start is the reset state with G of 0 and its map, and nothing read
   pub from-reset : resetSession ≡ begun (resetMapped 0 .hart) (resetMapped 0 .map)
   -- the other is the hart and map of a text that is taken, and nothing read
   pub from-text : (text : List ℕ) (h : Hart) (map : Map) → fromText text ≡ handedBack h map Done → textSession text ≡ begun h map

@@ -29,6 +29,7 @@ sessionFrom h map refusal = record {
   refusal = refusal;
 }
 
+-- 02, [9]: from reset with a grain of 4 bytes, the only one that a text of 01 has
 unfoldable pub resetSession : Session
 resetSession = sessionFrom (resetMapped 0 .hart) (resetMapped 0 .map) 0
 

@@ -33,7 +33,7 @@ fn session_from(hart: Hart, map: Map, refusal: u64) -> Session
 }
 
 impl Session {
-    // A session from reset.
+    // A session from reset, with a grain of 4 bytes.
     pub fn from_reset() -> Session
         ensures { λ r. ⌜ r ≡ resetSession ⌝ }
     {

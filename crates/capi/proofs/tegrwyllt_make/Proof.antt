@@ -16,20 +16,19 @@ returns c =
 fitted : (c : tie.Else1) → let a = c .before .before .before .before .args in fits (a .hart .now) (a .map .now) ≡ true
 fitted c = sym (c .before .fit .ensures) ∙ not-false _ (c .if1 .left)
 
-store-map-requires : tie.Need-store-map-requires
-store-map-requires c κs =
-    let e = c .before .before .before .before .before .before .before .before .before in
+put-requires : tie.Need-put-requires
+put-requires c κs =
+    let e = c .before .before .before .before .before in
     let a = e .before .before .before .before .args in
-    fitting (a .hart .now) (a .map .now) (fitted e) .1
+    fitting (a .hart .now) (a .map .now) (fitted e)
 
 returns-2 : tie.Need-returns-2
 returns-2 c =
-    let m = c .before .before in
-    let s = m .before .before .before .before .before in
-    let r = s .before .before .before .before in
+    let p = c .before .before .before .before in
+    let r = p .before .before .before .before .before in
     let e = r .before in
     let a = e .before .before .before .before .args in
-    made (a .grain) (a .hart .now) (a .map .now) (fitted e) (r .reset .ensures) (s .store .ensures) (m .store-map .ensures)
+    made (a .grain) (a .hart .now) (a .map .now) (fitted e) (r .reset .ensures) (p .put .ensures .0) (p .put .ensures .1)
 
 pub tegrwyllt-make-spec : {M : Type 1} → statement M
 tegrwyllt-make-spec =
@@ -38,8 +37,7 @@ tegrwyllt-make-spec =
     (λ c κs. search needs)
     returns
     (λ c κs. search needs)
-    (λ c κs. search needs)
-    store-map-requires
+    put-requires
     (λ c. search needs)
     (λ c. search needs)
     returns-2)
