@@ -1,11 +1,11 @@
 // The lowest entry that matches any byte of an access, and whether it matches all.
 use crate::Found;
 use crate::Span;
-use crate::entry::zeros_read;
 use crate::entry::contains;
 use crate::entry::entry_span;
-use crate::entry::ones_read;
 use crate::entry::napot_span;
+use crate::entry::ones_read;
+use crate::entry::zeros_read;
 ghost use mathlib.Core.Path.{_≡_};
 ghost use mathlib.Core.Bool.{true, false, _&&_};
 ghost use lib.Dec.{ltb};
@@ -31,14 +31,7 @@ fn apart() -> Overlap
 }
 
 // TOR and NA4 are compared by words, so that their bytes are formed only where they are needed.
-fn overlapping(
-    grain: u64,
-    cfg: u8,
-    addr: u64,
-    before: u64,
-    address: u64,
-    size: u64,
-) -> Overlap
+fn overlapping(grain: u64, cfg: u8, addr: u64, before: u64, address: u64, size: u64) -> Overlap
     requires { ⌜ (0 < size) × (address + size ≤ top) ⌝ }
     ensures { λ r. ⌜ r .some ≡ (ltb address (spanRead grain (fieldA cfg) addr before .high) && ltb (spanRead grain (fieldA cfg) addr before .low) (address + size)) ⌝ }
     ensures { λ r. ⌜ (r .some ≡ true → r .span ≡ spanRead grain (fieldA cfg) addr before) ⌝ }

@@ -89,8 +89,13 @@ word-held na4 (suc n) w =
     let k = pairs-small na4 in
     let f : first < 256 = omega (arith, k, and-le-r (w % 256 / 2) c) in
     let g = or-lt 8 first 0x60 f (omega arith) in
-    rw (mask-more (w / 2) pairs c (omega arith), half-byte w c k, s, or-block 8 rest reserved first 0x60 f (omega arith),
-    mask-more w (bitOr rest reserved) (bitOr first 0x60) g)
+    rw (
+      mask-more (w / 2) pairs c (omega arith),
+      half-byte w c k,
+      s,
+      or-block 8 rest reserved first 0x60 f (omega arith),
+      mask-more w (bitOr rest reserved) (bitOr first 0x60) g,
+    )
     (byte-more (bitAnd (w / 256) (bitOr rest reserved)) rest (bitAnd (w % 256) (bitOr first 0x60)) first (omega (arith, and-le-r (w % 256) (bitOr first 0x60), g)) f
     ∙ ap₂ _&&_ (byte-held na4 (w % 256) (omega arith)) (word-held na4 n (w / 256)))
 

@@ -16,7 +16,11 @@ pub fn words_can_hold(words: &[u64]) -> bool
     }
     let grain = words[places::GRAIN];
     let registers = registers::registers_can_hold(registers_at(words));
-    let configs = protection::configs_can_hold(grain, words[places::PMPCFG0], words[places::PMPCFG2]);
+    let configs = protection::configs_can_hold(
+        grain,
+        words[places::PMPCFG0],
+        words[places::PMPCFG2],
+    );
     let addresses = protection::addresses_can_hold(&words[places::PMPADDR0..places::SATP]);
     let satp = paging::satp_can_hold(words[places::SATP]);
     registers & ((pmp::grain_can_hold(grain) & (configs & addresses)) & satp)
