@@ -76,7 +76,8 @@ fn address_written(cfgs: [u8; 16], i: usize, old: u64, value: u64) -> u64
     }
 }
 
-// The registers after a write of any value to any number; a number that is not of protection changes nothing.
+// The registers after a write of any value to any number; a number that is not of protection changes nothing. The grain of 4 bytes is told apart, so that what is
+// compiled for it has no test of A.
 pub fn write_register(pmp: Pmp, number: u64, value: u64) -> Pmp
     ensures { λ r. ⌜ r ≡ pmpWritten pmp number value ⌝ }
 {
@@ -85,10 +86,18 @@ pub fn write_register(pmp: Pmp, number: u64, value: u64) -> Pmp
     let mut w = pmp;
     match number {
         0x3A0 => {
+            if grain == 0 {
+                w.cfgs = configs_written(0, cfgs, 0, value);
+                return w;
+            }
             w.cfgs = configs_written(grain, cfgs, 0, value);
             w
         }
         0x3A2 => {
+            if grain == 0 {
+                w.cfgs = configs_written(0, cfgs, 8, value);
+                return w;
+            }
             w.cfgs = configs_written(grain, cfgs, 8, value);
             w
         }
