@@ -6,10 +6,11 @@ use Prim.Native.Nat.{ℕ, zero, suc, _+_, _-_, _*_, _/_, _%_, _^_, _≤_, _<_}
 use native.Mathlib.Nat.{pow-suc, div-mul-le-self, div-add-mod'}
 use lib.Bits.{bitAnd, bitOr, and-mask, or-add-and}
 use native.Mathlib.Omega.{arith}
-use lib.Dec.{ltb}
+use lib.Dec.{eqb, ltb}
 use lib.Pow.{pow-pos}
 use borrow.Author.Tests.{lt-ltb, ltb-true}
-use Rattle.pmp.specs.Entry.{spanOf, legalGrain, lowZeros, lowOnes, addressRead, spanRead}
+use Rattle.bits.proofs.Conjunction.{by-test}
+use Rattle.pmp.specs.Entry.{spanOf, legalGrain, lowZeros, lowOnes, addressRead, addressMatched, spanRead}
 
 pub zeros-fit : (n word : ℕ) → word < 2 ^ 64 → word / 2 ^ n * 2 ^ n % 2 ^ 64 ≡ lowZeros n word
 zeros-fit n word h = let l : word / 2 ^ n * 2 ^ n ≤ word = div-mul-le-self word (2 ^ n) in omega arith
@@ -40,11 +41,14 @@ read-stored a addr = go (ltb a 2)
     go true = omega arith
     go false = omega arith
 
+matched-stored : (a addr : ℕ) → addressMatched 0 a addr ≡ addr
+matched-stored a addr = by-test (λ (w : ℕ). w ≡ addr) (eqb a 2) addr (addressRead 0 a addr) (λ t. refl) (λ t. read-stored a addr)
+
 bound-stored : (before : ℕ) → lowZeros 0 before ≡ before
 bound-stored before = omega arith
 
 pub span-stored : (a addr before : ℕ) → spanRead 0 a addr before ≡ spanOf a addr before
-span-stored a addr before = λ j. spanOf a (read-stored a addr j) (bound-stored before j)
+span-stored a addr before = λ j. spanOf a (matched-stored a addr j) (bound-stored before j)
 
 -- ---- the grain as it counts
 

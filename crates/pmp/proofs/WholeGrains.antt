@@ -7,7 +7,7 @@ use native.Mathlib.Decide.{decLe}
 use native.Mathlib.Omega.{arith}
 use lib.Dec.{leb, ltb, eqb}
 use lib.Pow.{pow-add, pow-pos}
-use borrow.Author.Tests.{le-leb, lt-leb, lt-ltb, le-ltb}
+use borrow.Author.Tests.{le-leb, lt-leb, lt-ltb, le-ltb, ne-eqb}
 use Rattle.pmp.specs.declared.Span.{Span}
 use Rattle.pmp.specs.Entry.{top, trailingOnes, spanOf, legalGrain, lowZeros, lowOnes, addressRead, spanRead, contains}
 use Rattle.pmp.proofs.EntryLaws.{ones-room}
@@ -101,11 +101,10 @@ span-whole g (suc zero) addr before h na4 =
 span-whole g (suc (suc zero)) addr before h na4 =
     let e : g ≡ 0 = na4 refl in
     rw e
-    (let w = lowOnes 0 addr in
-    let one : Multiple 4 (4 * w) = record { times = w; is = mul-comm 4 w } in
+    (let one : Multiple 4 (4 * addr) = record { times = addr; is = mul-comm 4 addr } in
     record {
-      low = least 4 (4 * w) top one (top-whole 0 (omega arith));
-      high = least 4 (4 * w + 4) top (sum 4 (4 * w) 4 one (record { times = 1; is = refl })) (top-whole 0 (omega arith));
+      low = least 4 (4 * addr) top one (top-whole 0 (omega arith));
+      high = least 4 (4 * addr + 4) top (sum 4 (4 * addr) 4 one (record { times = 1; is = refl })) (top-whole 0 (omega arith));
     })
 span-whole g (suc (suc (suc a))) addr before h na4 =
     let d = 2 ^ (g + 2) in
@@ -115,7 +114,8 @@ span-whole g (suc (suc (suc a))) addr before h na4 =
     let first : Multiple d (4 * (w - (2 ^ t - 1))) = words g (w - (2 ^ t - 1)) (first-word 64 g w (omega arith) (omega (arith, c))) in
     let size : Multiple d (2 ^ (t + 3)) = powers (g + 2) (t + 3) (omega (arith, c)) in
     let set : 2 ≤ suc (suc (suc a)) = omega arith in
-    rw (legal-small g h, le-ltb (suc (suc (suc a))) 2 set)
+    let other : suc (suc (suc a)) ≡ 2 → ⊥ = λ e. omega arith in
+    rw (legal-small g h, le-ltb (suc (suc (suc a))) 2 set, ne-eqb (suc (suc (suc a))) 2 other)
     (record {
       low = least d (4 * (w - (2 ^ t - 1))) top first (top-whole g h);
       high = least d (4 * (w - (2 ^ t - 1)) + 2 ^ (t + 3)) top (sum d (4 * (w - (2 ^ t - 1))) (2 ^ (t + 3)) first size) (top-whole g h);

@@ -62,9 +62,13 @@ lowOnes n word = lowZeros n word + (2 ^ n - 1)
 unfoldable pub addressRead : ℕ → ℕ → ℕ → ℕ
 addressRead g a addr = cond (ltb a 2) (lowZeros (legalGrain g) addr) (lowOnes (legalGrain g - 1) addr)
 
--- an entry matches by what is read; TOR's lower bound is the register before without its low G bits, whatever A is there
+-- an entry matches by what is read. NA4 is 01's as it was: with G of 0 what is read is what is stored, and with any other no hart can hold NA4
+abbrev pub addressMatched : ℕ → ℕ → ℕ → ℕ
+addressMatched g a addr = cond (eqb a 2) addr (addressRead g a addr)
+
+-- TOR's lower bound is the register before without its low G bits, whatever A is there
 abbrev pub spanRead : ℕ → ℕ → ℕ → ℕ → Span
-spanRead g a addr before = spanOf a (addressRead g a addr) (lowZeros (legalGrain g) before)
+spanRead g a addr before = spanOf a (addressMatched g a addr) (lowZeros (legalGrain g) before)
 
 -- pmpaddr(i-1), and 0 for entry 0
 abbrev pub addressBefore : List ℕ → ℕ → ℕ

@@ -3,7 +3,7 @@ use crate::Span;
 use crate::TOP;
 ghost use mathlib.Core.Path.{_≡_};
 ghost use Prim.Native.Nat.{_-_, _*_, _<_, min};
-ghost use Rattle.pmp.specs.Entry.{top, trailingOnes, napot, spanOf, fieldA, grainHoldable, legalGrain, lowZeros, lowOnes, addressRead, spanRead, locked, contains};
+ghost use Rattle.pmp.specs.Entry.{top, trailingOnes, napot, spanOf, fieldA, grainHoldable, legalGrain, lowZeros, lowOnes, addressRead, addressMatched, spanRead, locked, contains};
 
 // 2^54: the first word past physical memory.
 const TOP_WORD: u64 = 0x40000000000000;
@@ -113,13 +113,24 @@ pub fn address_read(grain: u64, cfg: u8, addr: u64) -> u64
     }
 }
 
+// The address by which an entry matches.
+fn address_matched(grain: u64, cfg: u8, addr: u64) -> u64
+    ensures { λ r. ⌜ r ≡ addressMatched grain (fieldA cfg) addr ⌝ }
+{
+    if cfg / 8 % 4 == 2 {
+        addr
+    } else {
+        address_read(grain, cfg, addr)
+    }
+}
+
 // The bytes that an entry matches, from its configuration byte, its address register and the one before.
 pub fn entry_span(grain: u64, cfg: u8, addr: u64, before: u64) -> Span
     ensures { λ r. ⌜ r ≡ spanRead grain (fieldA cfg) addr before ⌝ }
 {
-    let read = address_read(grain, cfg, addr);
+    let matched = address_matched(grain, cfg, addr);
     let bound = zeros_read(grain, before);
-    span_of(cfg, read, bound)
+    span_of(cfg, matched, bound)
 }
 
 // Whether a byte lies in the span.

@@ -55,11 +55,10 @@ fn overlapping(grain: u64, cfg: u8, addr: u64, before: u64, address: u64, size: 
         };
     }
     if a == 2 {
-        let word = ones_read(grain, addr);
-        if word < first {
+        if addr < first {
             return apart();
         }
-        if end <= word {
+        if end <= addr {
             return apart();
         }
         return Overlap {

@@ -9,7 +9,7 @@ returns : tie.Need-returns
 returns c =
     let b = c .before in
     let a = b .before .before .args in
-    c .span-of .ensures ∙ (λ j. spanOf (fieldA (a .cfg)) (b .before .address-read .ensures j) (b .zeros-read .ensures j))
+    c .span-of .ensures ∙ (λ j. spanOf (fieldA (a .cfg)) (b .before .address-matched .ensures j) (b .zeros-read .ensures j))
 
 pub entry-span-spec : {M : Type 1} → statement M
 entry-span-spec = tie.close (tie.spec (λ c κs. search needs) (λ c κs. search needs) (λ c κs. search needs) returns)

@@ -43,18 +43,14 @@ tor c lower b t =
     ((λ j. overlaps (spanOf 1 (sym (c .zeros-read .ensures) j) (sym lower j)) (a .address) (a .size)) ∙ tor-overlaps (a .address) (a .size) _ _ (s .pre .0) (s .pre .1)
     ∙ t)
 
-na4 : (c : tie.After-ones-read) (b : Bool) → let s = c .before .before .before in
-    (ltb (s .args .address / 4) (c .ones-read .result + 1) && ltb (c .ones-read .result) ((s .args .address + s .args .size + 3) / 4)) ≡ b
+na4 : (c : tie.Then5) (b : Bool) → let s = c .before .before in
+    (ltb (s .args .address / 4) (s .args .addr + 1) && ltb (s .args .addr) ((s .args .address + s .args .size + 3) / 4)) ≡ b
     → b ≡ overlaps (spanRead (s .args .grain) (fieldA (s .args .cfg)) (s .args .addr) (s .args .before)) (s .args .address) (s .args .size)
-unfolding addressRead
 na4 c b t =
-    let s = c .before .before .before in
+    let s = c .before .before in
     let a = s .args in
     let k : fieldA (a .cfg) ≡ 2 = omega arith in
-    tested s 2 k b
-    ((λ j. overlaps (spanOf 2 (sym (c .ones-read .ensures) j) (lowZeros (legalGrain (a .grain)) (a .before))) (a .address) (a .size))
-    ∙ na4-overlaps (a .address) (a .size) _ _ (s .pre .0) (s .pre .1)
-    ∙ t)
+    tested s 2 k b (na4-overlaps (a .address) (a .size) _ _ (s .pre .0) (s .pre .1) ∙ t)
 
 returns-2 : tie.Need-returns-2
 returns-2 c =
@@ -74,13 +70,13 @@ returns-4 c =
 
 returns-5 : tie.Need-returns-5
 returns-5 c =
-    let r = c .before .before in
-    let s = r .before .before .before in
-    let h : r .ones-read .result + 1 ≤ s .args .address / 4 = omega (arith, c .before .if6 .taken) in
-    (c .apart4 .ensures ∙ na4 r false (rw (le-ltb _ _ h)), none (c .apart4 .ensures))
+    let t = c .before .before in
+    let s = t .before .before in
+    let h : s .args .addr + 1 ≤ s .args .address / 4 = omega (arith, c .before .if6 .taken) in
+    (c .apart4 .ensures ∙ na4 t false (rw (le-ltb _ _ h)), none (c .apart4 .ensures))
 
 -- the entry's word is no earlier than the first of the access
-begins : (c : tie.Else6) → c .before .before .before .before .args .address / 4 < c .before .ones-read .result + 1
+begins : (c : tie.Else6) → let s = c .before .before .before in s .args .address / 4 < s .args .addr + 1
 begins c = omega (arith, c .if6 .left)
 
 returns-6 : tie.Need-returns-6
@@ -100,7 +96,7 @@ unfolding spanOf addressRead
 whole c =
     let a = c .before .before .before .before .args in
     let k : 3 ≡ fieldA (a .cfg) = omega arith in
-    c .napot-span .ensures ∙ ap (λ (w : ℕ). napot w (trailingOnes 64 w)) (c .before .ones-read2 .ensures)
+    c .napot-span .ensures ∙ ap (λ (w : ℕ). napot w (trailingOnes 64 w)) (c .before .ones-read .ensures)
     ∙ ap (λ (n : ℕ). spanRead (a .grain) n (a .addr) (a .before)) k
 
 returns-8 : tie.Need-returns-8
@@ -125,7 +121,6 @@ overlapping-spec =
     returns-3
     (λ c κs. search needs)
     returns-4
-    (λ c κs. search needs)
     (λ c κs. search needs)
     returns-5
     (λ c κs. search needs)
