@@ -8,11 +8,15 @@
  * says, whatever the slices hold and however long they are. Nothing is kept
  * from one call to the next.
  *
- * A hart is 42 words, first those of the saved text in its order: mode pc
+ * A hart is 43 words, first those of the saved text in its order: mode pc
  * mstatus medeleg mideleg mie mip lines mtvec mcounteren mcountinhibit mscratch
  * mepc mcause mtval stvec scounteren sscratch sepc scause stval mcycle minstret
- * pmpcfg0 pmpcfg2 pmpaddr0 .. pmpaddr15; the last word is satp. mip has the
- * software bits only.
+ * pmpcfg0 pmpcfg2 pmpaddr0 .. pmpaddr15; then satp and the grain. mip has the
+ * software bits only. The pmpaddr words are as stored, whatever a CSR read shows
+ * of them.
+ *
+ * The grain is G, 0 to 10: protection is by 2^(G+2) bytes. It is chosen by
+ * tegrwyllt_make, and no step changes it, but step 0 turns one above 10 into 0.
  *
  * The memory is the page tables: words of 64 bits standing at the physical
  * address base. It may have any number of words, also none, and is only read, by
@@ -45,7 +49,7 @@
 extern "C" {
 #endif
 
-#define TEGRWYLLT_HART_WORDS 42
+#define TEGRWYLLT_HART_WORDS 43
 #define TEGRWYLLT_MAP_WORDS 100
 #define TEGRWYLLT_STEP_WORDS 3
 #define TEGRWYLLT_ANSWER_WORDS 4
@@ -55,6 +59,14 @@ extern "C" {
 
 /* What save and restore give where the hart or the map has another length. */
 #define TEGRWYLLT_MISFIT UINT64_MAX
+
+/*
+ * Makes a hart as after reset, with a grain G, and its map. A G above 10 counts as
+ * 0. Gives 1; or 0, and changes nothing, where a length is another.
+ */
+uint64_t tegrwyllt_make(uint64_t grain,
+                        uint64_t *hart, size_t hart_length,
+                        uint64_t *map, size_t map_length);
 
 /*
  * One step, 0 to 17, with its arguments a and b. Hart and map become what the
@@ -94,14 +106,14 @@ uint64_t tegrwyllt_query(const uint64_t *hart, size_t hart_length,
 
 /*
  * Writes the hart's text to the first 1027 bytes of a buffer. Gives 0; or the
- * refusal's number, 3, 6 or 12 (satp, SUM or a wide medeleg has no place in the
- * text); or TEGRWYLLT_MISFIT. Unless 0, nothing is changed.
+ * refusal's number, 3, 6 or 12 (satp, SUM, a wide medeleg or a G other than 0 has no
+ * place in the text); or TEGRWYLLT_MISFIT. Unless 0, nothing is changed.
  */
 uint64_t tegrwyllt_save(const uint64_t *hart, size_t hart_length,
                         uint8_t *text, size_t text_length);
 
 /*
- * Reads a text back as a hart, with satp 0, and its map. Gives 0; or the
+ * Reads a text back as a hart, with satp 0 and grain 0, and its map. Gives 0; or the
  * refusal's number, 4 or 5; or TEGRWYLLT_MISFIT. Unless 0, nothing is changed.
  */
 uint64_t tegrwyllt_restore(const uint8_t *text, size_t text_length,

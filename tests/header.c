@@ -1,4 +1,4 @@
-/* Each function of the archive through the header: values worked out by hand from the scope document and requests [5] and [8]. */
+/* Each function of the archive through the header: values worked out by hand from the scope document and requests [5], [8] and [9]. */
 #include <inttypes.h>
 #include <stdio.h>
 #include <stdlib.h>
@@ -6,7 +6,7 @@
 
 #include "tegrwyllt.h"
 
-enum { HART = 42, MAP = 100, ANSWER = 4, TEXT = 1027 };
+enum { HART = 43, MAP = 100, ANSWER = 4, TEXT = 1027 };
 
 static void expect(int holds, const char *what) {
     if (!holds) {
@@ -19,7 +19,7 @@ static void expect(int holds, const char *what) {
 static const uint64_t none[1];
 
 /* Page tables from 0x80000000 on: the root, a table of level 1 and one of level 0. */
-enum { TABLES = 3 * 512, SATP = 41, MTVAL = 14 };
+enum { TABLES = 3 * 512, SATP = 41, GRAIN = 42, MTVAL = 14 };
 static const uint64_t base = 0x80000000;
 static const uint64_t tables[TABLES] = {
     [0] = 0x20000401,        /* the root's entry 0 points to the table at 0x80001000 */
@@ -30,6 +30,39 @@ static const uint64_t tables[TABLES] = {
 
 static int answers(const uint64_t *answer, uint64_t kind, uint64_t value, uint64_t mode, uint64_t entry) {
     return answer[0] == kind && answer[1] == value && answer[2] == mode && answer[3] == entry;
+}
+
+/* Harts made with a grain, and protection by 16 bytes, G being 2. */
+static void grains(void) {
+    uint64_t hart[HART], map[MAP], answer[ANSWER], given[28];
+    uint8_t text[TEXT];
+    memset(hart, 0x55, sizeof hart);
+    memset(map, 0x55, sizeof map);
+    expect(tegrwyllt_make(2, hart, HART - 1, map, MAP) == 0, "42 words are no hart to make");
+    expect(tegrwyllt_make(2, hart, HART, map, MAP - 1) == 0, "99 words are no map to make");
+    expect(hart[0] == hart[GRAIN] && map[0] == hart[0], "nothing is made then");
+    expect(tegrwyllt_make(11, hart, HART, map, MAP) == 1 && hart[GRAIN] == 0, "a G of 11 counts as 0");
+    expect(tegrwyllt_make(2, hart, HART, map, MAP) == 1 && hart[GRAIN] == 2, "a G of 2");
+    expect(hart[0] == 3 && hart[1] == 0x1000 && hart[2] == UINT64_C(0xA00000000) && hart[SATP] == 0, "made as after reset");
+    expect(map[0] == 1 && map[1] == 0 && map[2] == (UINT64_C(1) << 56) - 1 && map[3] == 16, "with the reset map");
+
+    /* All ones in pmpaddr0: what is read ends in 00 under OFF, and in 11 under NAPOT. A=2 is left out. */
+    const uint64_t ones = (UINT64_C(1) << 54) - 1;
+    const uint64_t steps[] = {1, 0x3B0, ones, 4, 0x3B0, 0, 1, 0x3A0, 0x18, 1, 0x3A0, 0x17, 4, 0x3A0, 0, 4, 0x3B0, 0, 1, 0x3B0, 4};
+    expect(tegrwyllt_run(hart, HART, map, MAP, none, 0, 0, steps, 21, given, 28) == 1, "a run with a grain");
+    expect(answers(given + 4, 1, ones - 3, 0, 0), "the low two bits read as zeros");
+    expect(answers(given + 16, 1, 0x18, 0, 0), "A=2 left the byte as it was");
+    expect(answers(given + 20, 1, ones, 0, 0), "the stored value is kept");
+    expect(hart[25] == 4 && map[0] == 3 && map[4] == 0x10 && map[5] == 0x1F && map[6] == 0, "NAPOT 4 reads 5: 16 bytes");
+    expect(tegrwyllt_query(hart, HART, map, MAP, 1, 1, 0x18, 8, answer, ANSWER) == 1 && answers(answer, 6, 5, 0, 0), "entry 0 denies S there");
+    expect(tegrwyllt_save(hart, HART, text, TEXT) == 12, "a grain has no place in the text: refusal 12");
+
+    /* Step 0 keeps the grain; one above 10 can be held by no hart, and becomes 0. */
+    expect(tegrwyllt_step(hart, HART, map, MAP, none, 0, 0, 0, 0, 0, answer, ANSWER) == 1 && hart[GRAIN] == 2, "reset keeps the grain");
+    hart[GRAIN] = 11;
+    expect(tegrwyllt_save(hart, HART, text, TEXT) == 3, "refusal 3, before 12");
+    expect(tegrwyllt_step(hart, HART, map, MAP, none, 0, 0, 11, 0, 0, answer, ANSWER) == 1 && answers(answer, 5, 3, 0, 0), "and at a step");
+    expect(tegrwyllt_step(hart, HART, map, MAP, none, 0, 0, 0, 0, 0, answer, ANSWER) == 1 && hart[GRAIN] == 0, "reset");
 }
 
 int main(void) {
@@ -83,7 +116,7 @@ int main(void) {
     expect(memcmp(hart, back, sizeof hart) == 0 && memcmp(map, ranges, sizeof map) == 0, "the same hart and map");
 
     /* Slices of another length change nothing. */
-    expect(tegrwyllt_step(hart, HART - 1, map, MAP, none, 0, 0, 0, 0, 0, answer, ANSWER) == 0, "41 words are no hart");
+    expect(tegrwyllt_step(hart, HART - 1, map, MAP, none, 0, 0, 0, 0, 0, answer, ANSWER) == 0, "42 words are no hart");
     expect(tegrwyllt_step(hart, HART, map, MAP, none, 0, 0, 18, 0, 0, answer, ANSWER) == 0, "there is no step 18");
     memcpy(kept, told, sizeof told);
     expect(tegrwyllt_run(hart, HART, map, MAP, none, 0, 0, steps, 15, told, 15) == 0, "three words for each answer are too few");
@@ -107,6 +140,7 @@ int main(void) {
     expect(answers(answer, 4, 15, 3, 16) && hart[MTVAL] == 0x4000, "a page fault of its second part");
     expect(tegrwyllt_save(hart, HART, text, TEXT) == 12, "satp has no place in the text: refusal 12");
     expect(tegrwyllt_save(hart, HART, text, TEXT - 1) == 6, "after 6");
+    grains();
     puts("header: every function answers as the scope document says");
     return 0;
 }

@@ -100,8 +100,8 @@ const CSR: [Words; 16] = [
 ];
 
 /// Numbers with and without a register, in turn and scattered: the second of each
-/// pair goes over all 4,096 numbers. Operand 0 changes no protection register, so no
-/// map is compiled.
+/// pair goes over all 4,096 numbers. With a G of 0, operand 0 changes no protection
+/// register, so no map is compiled.
 static ANY_NUMBER: [Words; 2 * 4096] = any_number();
 /// How many numbers have a register.
 const REGISTERS: usize = 139;
@@ -197,8 +197,8 @@ const PROTECTION: [Words; 16] = [
     [WRITE, 0x3A0, 0x1111_1111_1111_1111],
 ];
 
-/// The hart and map from which all mixes but the last start: sixteen entries of four
-/// readable bytes each (33 ranges), and traps and interrupts for both levels.
+/// The hart and map from which all mixes but the last start: a G of 0, sixteen entries of
+/// four readable bytes each (33 ranges), and traps and interrupts for both levels.
 pub fn setting() -> (Hart, Map) {
     let (mut hart, mut map) = (Hart::reset(), Map::reset());
     let addresses = (0..16).map(|entry| [WRITE, 0x3B0 + entry, 2 * entry + 1]);

@@ -8,6 +8,14 @@
 use crate::memory::Memory;
 
 unsafe extern "C" {
+    fn tegrwyllt_make(
+        grain: u64,
+        hart: *mut u64,
+        hart_length: usize,
+        map: *mut u64,
+        map_length: usize,
+    ) -> u64;
+
     fn tegrwyllt_step(
         hart: *mut u64,
         hart_length: usize,
@@ -67,6 +75,13 @@ unsafe extern "C" {
     ) -> u64;
 }
 
+/// Makes a hart and its map; 1, or 0 where a length is none there is.
+pub fn make(grain: u64, hart: &mut [u64], map: &mut [u64]) -> u64 {
+    // SAFETY: each pointer comes with the length of the slice it belongs to,
+    // and the slices lent for writing do not overlap; so for all calls below.
+    unsafe { tegrwyllt_make(grain, hart.as_mut_ptr(), hart.len(), map.as_mut_ptr(), map.len()) }
+}
+
 /// One step; 1, or 0 where a length or the step's number is none there is.
 pub fn step(
     hart: &mut [u64],
@@ -76,8 +91,6 @@ pub fn step(
     answer: &mut [u64],
 ) -> u64 {
     let [number, a, b] = step;
-    // SAFETY: each pointer comes with the length of the slice it belongs to,
-    // and the slices lent for writing do not overlap; so for all calls below.
     unsafe {
         tegrwyllt_step(
             hart.as_mut_ptr(),

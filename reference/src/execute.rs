@@ -2,6 +2,7 @@
 
 use crate::answer::{Answer, Refusal};
 use crate::csr::{Judge, Rule};
+use crate::grain::make;
 use crate::hart::Hart;
 use crate::holdable::{mask, within};
 use crate::map::Map;
@@ -57,9 +58,9 @@ impl Hart {
         }
     }
 
+    /// As if made anew, with the grain it has.
     fn restart(&mut self, map: &mut Map) -> Answer {
-        *self = Hart::reset();
-        *map = Map::reset();
+        (*self, *map) = make(self.grain);
         Answer::Done
     }
 

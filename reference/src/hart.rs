@@ -1,8 +1,8 @@
-//! The registers of one hart, in the order of the saved text; satp, which that lacks,
-//! is the last.
+//! The registers of one hart, in the order of the saved text; satp and the grain,
+//! which that lacks, are the last.
 
-/// Number of words of a hart: one for each line of the saved text, and satp.
-pub const HART_WORDS: usize = 42;
+/// Number of words of a hart: one for each line of the saved text, satp, and the grain.
+pub const HART_WORDS: usize = 43;
 
 pub const USER: u64 = 0;
 pub const SUPERVISOR: u64 = 1;
@@ -61,11 +61,15 @@ pub struct Hart {
     pub minstret: u64,
     /// The configuration bytes of pmpcfg0 and pmpcfg2, entry 0 first.
     pub pmpcfg: [u8; 16],
+    /// As stored, whatever a read shows of them.
     pub pmpaddr: [u64; 16],
     pub satp: u64,
+    /// G: protection is by 2^(G+2) bytes.
+    pub grain: u64,
 }
 
 impl Hart {
+    /// At reset, with a G of 0.
     pub fn reset() -> Hart {
         let mut words = [0; HART_WORDS];
         words[0] = MACHINE;
@@ -102,6 +106,7 @@ impl Hart {
             pmpcfg: configuration_bytes(words[23], words[24]),
             pmpaddr: std::array::from_fn(|entry| words[25 + entry]),
             satp: words[41],
+            grain: words[42],
         }
     }
 
@@ -136,6 +141,7 @@ impl Hart {
         ]);
         words[25..41].copy_from_slice(&self.pmpaddr);
         words[41] = self.satp;
+        words[42] = self.grain;
         words
     }
 

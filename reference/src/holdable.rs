@@ -1,5 +1,6 @@
 //! What a hart can hold.
 
+use crate::grain::COARSEST;
 use crate::hart::{Hart, MACHINE, SUPERVISOR, USER};
 use crate::status;
 use crate::sv39::satp;
@@ -40,13 +41,13 @@ impl Hart {
             && within(self.mcause, mask::CAUSE)
             && within(self.scause, mask::CAUSE)
             && within(self.satp, mask::SATP)
-            && self.pmpcfg.iter().all(|&byte| can_hold_pmpcfg(byte))
-            && self.pmpaddr.iter().all(|&word| within(word, mask::PMPADDR))
+            && self.can_hold_protection()
     }
 
     /// Whether the saved text can hold what this hart does.
     pub fn has_text(&self) -> bool {
         self.satp == 0
+            && self.grain == 0
             && within(self.mstatus, status::FIXED | mask::text::MSTATUS)
             && within(self.medeleg, mask::text::MEDELEG)
     }
@@ -70,6 +71,12 @@ impl Hart {
         within(self.mcounteren, mask::COUNTERS)
             && within(self.scounteren, mask::COUNTERS)
             && within(self.mcountinhibit, mask::COUNTERS)
+    }
+
+    fn can_hold_protection(&self) -> bool {
+        self.grain <= COARSEST
+            && self.pmpcfg.iter().all(|&byte| can_hold_pmpcfg(byte) && !self.bars(byte))
+            && self.pmpaddr.iter().all(|&word| within(word, mask::PMPADDR))
     }
 }
 

@@ -11,6 +11,7 @@ pub mod capi;
 pub mod csr;
 mod execute;
 pub mod generate;
+mod grain;
 mod hart;
 mod hexadecimal;
 mod holdable;
@@ -32,6 +33,7 @@ mod trap;
 
 pub use answer::{ANSWER_WORDS, Answer, Cause, Entry, Refusal, Ruling, Verdict};
 pub use execute::{step, step_judged_by};
+pub use grain::{COARSEST, make};
 pub use hart::{HART_WORDS, Hart, MACHINE, Mode, SUPERVISOR, USER};
 pub use holdable::mask;
 pub use map::{MAP_WORDS, Map, NONE, RANGES, Range};

@@ -1,7 +1,9 @@
 //! The map: memory cut into ranges, each owned by its lowest matching entry.
 
+use std::array;
+
 use crate::hart::Hart;
-use crate::protection::{MEMORY, NA4, NAPOT, TOR, address_matching};
+use crate::protection::{MEMORY, Matcher, NA4, NAPOT, TOR, address_matching};
 
 /// The most ranges a map can have.
 pub const RANGES: usize = 33;
@@ -88,10 +90,11 @@ impl Hart {
             pair.copy_from_slice(&self.borders(entry));
         }
         borders.sort_unstable();
+        let matchers = array::from_fn(|entry| self.matcher(entry));
         let mut map = Map::EMPTY;
         for first in borders {
             if first < MEMORY {
-                map.append(first, self.owner(first));
+                map.append(first, owner(&matchers, first));
             }
         }
         map
@@ -99,21 +102,25 @@ impl Hart {
 
     /// The lowest entry that matches the byte, or `NONE`.
     pub fn owner(&self, byte: u64) -> u64 {
-        (0..16).find(|&entry| self.matches(entry, byte)).map_or(NONE, |entry| entry as u64)
+        owner(&array::from_fn(|entry| self.matcher(entry)), byte)
     }
 
     /// The first byte of an entry and the first byte past it; 0 and 0 for an
     /// entry that is off, since memory starts there anyway.
     fn borders(&self, entry: usize) -> [u64; 2] {
-        let pmpaddr = self.pmpaddr[entry];
+        let pmpaddr = self.read_pmpaddr(entry);
         match address_matching(self.pmpcfg[entry]) {
-            TOR if entry == 0 => [0, 4 * pmpaddr],
-            TOR => [4 * self.pmpaddr[entry - 1], 4 * pmpaddr],
+            TOR => [4 * self.bottom_of_range(entry), 4 * pmpaddr],
             NA4 => [4 * pmpaddr, 4 * pmpaddr + 4],
             NAPOT => napot_borders(pmpaddr),
             _ => [0, 0],
         }
     }
+}
+
+/// The lowest of all entries that matches the byte, or `NONE`.
+fn owner(matchers: &[Matcher; 16], byte: u64) -> u64 {
+    matchers.iter().position(|matcher| matcher.matches(byte)).map_or(NONE, |entry| entry as u64)
 }
 
 fn napot_borders(pmpaddr: u64) -> [u64; 2] {

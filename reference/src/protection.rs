@@ -72,21 +72,56 @@ fn permits(configuration: u8, mode: u64, access: Access) -> bool {
     configuration & access.permission() != 0
 }
 
+/// What an entry matches, words being four bytes.
+#[derive(Clone, Copy)]
+pub(crate) enum Matcher {
+    /// The words from `bottom` up to but not including `top`.
+    Range { bottom: u64, top: u64 },
+    /// The word at this address alone.
+    Word(u64),
+    /// The words that have the bits of `pmpaddr` where they are compared.
+    Bits { pmpaddr: u64, compared: u64 },
+}
+
+impl Matcher {
+    const NOTHING: Matcher = Matcher::Range { bottom: 0, top: 0 };
+
+    /// All bits but the trailing ones of pmpaddr and the zero above them.
+    fn naturally_aligned(pmpaddr: u64) -> Matcher {
+        let free = pmpaddr ^ pmpaddr.wrapping_add(1);
+        Matcher::Bits { pmpaddr, compared: !free }
+    }
+
+    /// Whether the one byte at `byte`, which is in memory, is matched.
+    pub(crate) fn matches(self, byte: u64) -> bool {
+        let word = byte >> 2;
+        match self {
+            Matcher::Range { bottom, top } => bottom <= word && word < top,
+            Matcher::Word(pmpaddr) => word == pmpaddr,
+            Matcher::Bits { pmpaddr, compared } => (word ^ pmpaddr) & compared == 0,
+        }
+    }
+}
+
 impl Hart {
     /// Whether `entry` matches the one byte at `byte`, which is in memory.
     pub fn matches(&self, entry: usize, byte: u64) -> bool {
-        let word = byte >> 2;
-        let pmpaddr = self.pmpaddr[entry];
+        self.matcher(entry).matches(byte)
+    }
+
+    /// By the grain, of a hart that can be held.
+    pub(crate) fn matcher(&self, entry: usize) -> Matcher {
         match address_matching(self.pmpcfg[entry]) {
-            OFF => false,
-            TOR => self.bottom_of_range(entry) <= word && word < pmpaddr,
-            NA4 => word == pmpaddr,
-            _ => (word ^ pmpaddr) & !free_bits(pmpaddr) == 0,
+            OFF => Matcher::NOTHING,
+            TOR => Matcher::Range { bottom: self.bottom_of_range(entry), top: self.bound(entry) },
+            NA4 => Matcher::Word(self.pmpaddr[entry]),
+            _ => Matcher::naturally_aligned(self.napot(entry)),
         }
     }
 
-    fn bottom_of_range(&self, entry: usize) -> u64 {
-        if entry == 0 { 0 } else { self.pmpaddr[entry - 1] }
+    /// The lower bound of a TOR entry.
+    pub(crate) fn bottom_of_range(&self, entry: usize) -> u64 {
+        if entry == 0 { 0 } else { self.bound(entry - 1) }
     }
 
     /// The byte rule for an access of `size` bytes, any number from 1 up, in the
@@ -96,14 +131,20 @@ impl Hart {
             return Ruling::new(false, access, None);
         }
         let entry = self.deciding_entry(address, size);
-        let matches_all = |entry| (0..size).all(|offset| self.matches(entry, address + offset));
+        let matches_all = |entry| {
+            let matcher = self.matcher(entry);
+            (0..size).all(|offset| matcher.matches(address + offset))
+        };
         let granted = entry.is_none_or(matches_all) && self.permitted_by(entry, mode, access);
         Ruling::new(granted, access, entry)
     }
 
     /// The lowest entry that matches any byte of an access inside memory.
     fn deciding_entry(&self, address: u64, size: u64) -> Entry {
-        (0..16).find(|&entry| (0..size).any(|offset| self.matches(entry, address + offset)))
+        (0..16).find(|&entry| {
+            let matcher = self.matcher(entry);
+            (0..size).any(|offset| matcher.matches(address + offset))
+        })
     }
 
     /// What the deciding entry says of an access that lies wholly in it. Where none
@@ -114,10 +155,4 @@ impl Hart {
             None => mode == MACHINE,
         }
     }
-}
-
-/// The address bits a NAPOT entry does not compare: the trailing ones of
-/// pmpaddr and the zero above them.
-fn free_bits(pmpaddr: u64) -> u64 {
-    pmpaddr ^ pmpaddr.wrapping_add(1)
 }

@@ -8,7 +8,7 @@ use crate::map::Map;
 /// Number of bytes of a saved text.
 pub const TEXT_LENGTH: usize = 1027;
 
-/// The keys of the saved text, one for each word of a hart but satp.
+/// The keys of the saved text, one for each word of a hart but satp and the grain.
 pub const KEYS: [&str; 41] = [
     "mode",
     "pc",
@@ -67,7 +67,8 @@ pub fn save(hart: &Hart, buffer: &mut [u8]) -> Result<(), Refusal> {
     Ok(())
 }
 
-/// Reads a text back, with the map of its protection registers. satp is 0.
+/// Reads a text back, with the map of its protection registers. satp and the grain
+/// are 0.
 pub fn restore(text: &[u8]) -> Result<(Hart, Map), Refusal> {
     let hart = Hart::from_words(&read_words(text).ok_or(Refusal::Form)?);
     if !hart.can_hold() || !hart.has_text() {
@@ -76,7 +77,8 @@ pub fn restore(text: &[u8]) -> Result<(Hart, Map), Refusal> {
     Ok((hart, hart.compile()))
 }
 
-/// The form alone, with any words whatever; that of satp has no place in it.
+/// The form alone, with any words whatever; those of satp and the grain have no place
+/// in it.
 pub fn form(words: &[u64; HART_WORDS]) -> [u8; TEXT_LENGTH] {
     let mut text = [0; TEXT_LENGTH];
     write_words(words, &mut text);

@@ -2,12 +2,17 @@
 
 use reference::{HART_WORDS, Hart, KEYS};
 
-/// The word of satp, which has no key.
-const SATP: usize = HART_WORDS - 1;
+/// The words that have no key in the saved text.
+const KEYLESS: [&str; 2] = ["satp", "grain"];
 
 fn can_hold(key: &str, value: u64) -> bool {
-    let word = KEYS.iter().position(|&name| name == key).unwrap_or(SATP);
-    let mut words = Hart::reset().to_words();
+    can_hold_with(&Hart::reset(), key, value)
+}
+
+/// The same with another start than reset.
+fn can_hold_with(start: &Hart, key: &str, value: u64) -> bool {
+    let word = KEYS.iter().chain(&KEYLESS).position(|&name| name == key).unwrap();
+    let mut words = start.to_words();
     words[word] = value;
     Hart::from_words(&words).can_hold()
 }
@@ -79,6 +84,34 @@ fn configuration_bytes() {
         for place in 0..8 {
             assert_eq!(can_hold("pmpcfg0", byte << (8 * place)), holds);
             assert_eq!(can_hold("pmpcfg2", byte << (8 * place)), holds);
+        }
+    }
+}
+
+/// Request [9] of document 02.
+#[test]
+fn a_grain_up_to_10() {
+    for grain in 0..64 {
+        assert_eq!(can_hold("grain", grain), grain <= 10, "{grain}");
+        assert_eq!(can_hold("grain", 1 << grain), grain <= 3, "2^{grain}");
+    }
+    for grain in [256 + 3, 1 << 32, 1 << 63 | 5, u64::MAX] {
+        assert!(!can_hold("grain", grain));
+    }
+}
+
+/// A=2 in any one byte, with any other bits, is held with a G of 0 alone.
+#[test]
+fn a_grain_of_1_or_more_bars_na4() {
+    for grain in 0..=10 {
+        let start = Hart { grain, ..Hart::reset() };
+        for byte in 0..=255u64 {
+            let holds = byte & 0x60 == 0 && byte & 3 != 2 && (grain == 0 || byte & 0x18 != 0x10);
+            for place in 0..8 {
+                for key in ["pmpcfg0", "pmpcfg2"] {
+                    assert_eq!(can_hold_with(&start, key, byte << (8 * place)), holds);
+                }
+            }
         }
     }
 }

@@ -29,8 +29,8 @@ fn written(satp: u64, operation: u64, operand: u64) -> (u64, u64) {
 }
 
 #[test]
-fn satp_is_the_last_word_and_0_at_reset() {
-    assert_eq!((HART_WORDS, Hart::reset().satp), (42, 0));
+fn satp_is_the_last_word_but_one_and_0_at_reset() {
+    assert_eq!((HART_WORDS, Hart::reset().satp), (43, 0));
     assert_eq!(with_satp(SV39 | 5).to_words()[41], SV39 | 5);
     let (left, map, answer) = run_with_map(&with_satp(SV39 | 5), &odd_map(), 0, 0, 0);
     assert_eq!((left, map, answer), (Hart::reset(), Hart::reset().compile(), Answer::Done));

@@ -23,10 +23,10 @@ use Rattle.hart.specs.Steps.{mapFor}
 use Rattle.hart.proofs.LeftLaws.{left-is, answers-are}
 use Rattle.capi.specs.Calls.{hartOf, fits, Left, answersFit, runCall}
 
-pub fitting : (hart map : List ℕ) → fits hart map ≡ true → (length hart ≡ 42) × (length map ≡ 100)
+pub fitting : (hart map : List ℕ) → fits hart map ≡ true → (length hart ≡ 43) × (length map ≡ 100)
 fitting hart map t =
-    let b = both (eqb (length hart) 42) (eqb (length map) 100) t in
-    (eqb-true (length hart) 42 (b .0), eqb-true (length map) 100 (b .1))
+    let b = both (eqb (length hart) 43) (eqb (length map) 100) t in
+    (eqb-true (length hart) 43 (b .0), eqb-true (length map) 100 (b .1))
 
 -- what a call gives back and leaves, as its clauses say it
 abbrev pub Leaves : Left → ℕ → List ℕ → List ℕ → List ℕ → Type 0
@@ -47,13 +47,13 @@ module _ (hart map : List ℕ) (m : Memory) (steps answers : List ℕ) where
       unmade (rw (e, lt-leb step 17 h) (ap (λ (x : Bool). fits hart map && x) (and-false (answersFit (step ∷ a ∷ b ∷ []) answers)) ∙ and-false (fits hart map)))
 
   module _ (t : runTest hart map steps answers ≡ true) where
-    parts : (length hart ≡ 42) × (length map ≡ 100) × (nameSteps steps ≡ true)
+    parts : (length hart ≡ 43) × (length map ≡ 100) × (nameSteps steps ≡ true)
     parts =
         let p = both (fits hart map) (answersFit steps answers && nameSteps steps) t in
         let f = fitting hart map (p .0) in
         (f .0, f .1, both (answersFit steps answers) (nameSteps steps) (p .1) .1)
 
-    pub hart-fits : length hart ≡ 42
+    pub hart-fits : length hart ≡ 43
     hart-fits = parts .0
 
     pub map-fits : length map ≡ 100
@@ -74,7 +74,7 @@ module _ (hart map : List ℕ) (m : Memory) (steps answers : List ℕ) where
     unfolding ran
     ran-is = rw (parts .0, parts .2)
 
-    pub made : {r : Bool} {x y z : List ℕ} → length x ≡ 42 → r ≡ ran hart m steps answers .remap → x ≡ ran hart m steps answers .words
+    pub made : {r : Bool} {x y z : List ℕ} → length x ≡ 43 → r ≡ ran hart m steps answers .remap → x ≡ ran hart m steps answers .words
         → y ≡ ran hart m steps answers .answers → stateOf x ≡ ran hart m steps answers .state
         → z ≡ cond r (mapWords (mapFor (loadedPmp x))) map → Leaves (runCall hart map m steps answers) 1 x z y
     unfolding runCall

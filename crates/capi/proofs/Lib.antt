@@ -2,4 +2,5 @@
 pub mod MapLaws
 pub mod CallLaws
 pub mod QueryLaws
+pub mod MakeLaws
 pub mod SaveLaws

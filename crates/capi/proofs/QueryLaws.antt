@@ -25,7 +25,7 @@ use Rattle.capi.specs.Calls.{hartOf, fits, accessOf, queryable, queryRes
 use Rattle.capi.proofs.CallLaws.{fitting}
 
 -- refusal 3, or the query with the configuration bytes, of the state of the words
-module _ (w v : List ℕ) (fit : length w ≡ 42) (mode kind address size : ℕ) {held : Bool} (eh : held ≡ canHold (loaded w)) where
+module _ (w v : List ℕ) (fit : length w ≡ 43) (mode kind address size : ℕ) {held : Bool} (eh : held ≡ canHold (loaded w)) where
   can-hold : canHold (stateOf w) ≡ held
   can-hold = sym (eh ∙ ap canHold (all-loaded w fit))
 
@@ -46,7 +46,7 @@ module _ (hart map : List ℕ) (mode kind : ℕ) (answer : List ℕ) where
       → (f && (eqb (length answer) 4 && q)) ≡ queryable hart map mode kind answer
   test e g = rw (e, g)
 
-  pub lengths : queryable hart map mode kind answer ≡ true → (length hart ≡ 42) × (length map ≡ 100) × (length answer ≡ 4)
+  pub lengths : queryable hart map mode kind answer ≡ true → (length hart ≡ 43) × (length map ≡ 100) × (length answer ≡ 4)
   lengths t =
       let b = both (fits hart map) (eqb (length answer) 4 && (isMode mode && leb kind 2)) t in
       let f = fitting hart map (b .0) in

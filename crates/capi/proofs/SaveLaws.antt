@@ -13,9 +13,9 @@ use Rattle.steps.specs.Number.{refusalOf}
 use Rattle.state.specs.declared.State.{State}
 use Rattle.state.specs.Words.{wordsOf}
 use Rattle.state.specs.Texts.{textState}
-use Rattle.state.specs.Slices.{loaded, stored}
+use Rattle.state.specs.Slices.{loaded}
 use Rattle.state.proofs.Back.{words-back}
-use Rattle.state.proofs.SliceLaws.{all-loaded, all-stored}
+use Rattle.state.proofs.SliceLaws.{all-loaded}
 use Rattle.map.specs.declared.Map.{Map}
 use Rattle.map.specs.MapWords.{mapOfWords, mapWords}
 use Rattle.map.proofs.MapWords.{map-words-back}
@@ -28,11 +28,11 @@ use Rattle.capi.specs.Calls.{hartOf, fits, misfit, saveResult, savedText
 use Rattle.capi.proofs.CallLaws.{fitting}
 
 module _ (hart text : List ℕ) where
-  pub not-saved : (length hart ≡ 42 → ⊥) → (misfit ≡ saveResult hart text) × (text ≡ savedText hart text)
+  pub not-saved : (length hart ≡ 43 → ⊥) → (misfit ≡ saveResult hart text) × (text ≡ savedText hart text)
   unfolding saveResult savedText
-  not-saved n = (rw (ne-eqb (length hart) 42 n), rw (ne-eqb (length hart) 42 n))
+  not-saved n = (rw (ne-eqb (length hart) 43 n), rw (ne-eqb (length hart) 43 n))
 
-  module _ (e : length hart ≡ 42) {s : State} (es : s ≡ loaded hart) where
+  module _ (e : length hart ≡ 43) {s : State} (es : s ≡ loaded hart) where
     hart-is : hartWith s ≡ hartOf hart
     hart-is = ap (λ (x : State). hartWith x) (es ∙ all-loaded hart e)
 
@@ -93,7 +93,7 @@ module _ (text hart map : List ℕ) where
   unfolding restoreResult restoredHart restoredMap
   not-restored e = (rw e, (rw e, rw e))
 
-  module _ (t : fits hart map ≡ true) (words : Words 42 hart) (g : Hart) (empty : Map) {s : Stepped} (e : s ≡ restored g empty text) {r : ℕ}
+  module _ (t : fits hart map ≡ true) (words : Words 43 hart) (g : Hart) (empty : Map) {s : Stepped} (e : s ≡ restored g empty text) {r : ℕ}
       (f : r ≡ refusalOf (s .answer)) where
     given-number : r ≡ refusalOf (restored g empty text .answer)
     given-number = f ∙ ap (λ (x : Stepped). refusalOf (x .answer)) e
@@ -112,13 +112,13 @@ module _ (text hart map : List ℕ) where
           ),
         )
 
-    pub restore-done : r ≡ 0 → {h m : List ℕ} → h ≡ stored (s .hart .state) hart → m ≡ mapWords (s .map) → Restored text hart map 0 h m
+    pub restore-done : r ≡ 0 → {h m : List ℕ} → h ≡ wordsOf (s .hart .state) → m ≡ mapWords (s .map) → Restored text hart map 0 h m
     unfolding restoreResult restoredHart restoredMap
     restore-done z p q =
         let d : s ≡ readBack text hart map = e ∙ read-done g (hartOf hart) empty (mapOfWords map) text (sym given-number ∙ z) in (
           rw t (sym z ∙ number),
           (
-            rw t (p ∙ all-stored hart (fitting hart map t .0) (s .hart .state) ∙ ap (λ (x : Stepped). wordsOf (x .hart .state)) d),
+            rw t (p ∙ ap (λ (x : Stepped). wordsOf (x .hart .state)) d),
             rw t (q ∙ ap (λ (x : Stepped). mapWords (x .map)) d),
           ),
         )

@@ -17,18 +17,30 @@ use Rattle.map.specs.MapWords.{mapOfWords, mapWords}
 use Rattle.engine.specs.Runs.{Lent, lent}
 use Rattle.hart.specs.declared.Hart.{Hart}
 use Rattle.hart.specs.declared.Stepped.{Stepped}
-use Rattle.hart.specs.Steps.{hartWith}
+use Rattle.hart.specs.Steps.{hartWith, resetMapped}
 use Rattle.hart.specs.Runs.{leftBy, answersBy}
 use Rattle.hart.specs.Queries.{queryAnswer}
 use Rattle.hart.specs.Saved.{savedAnswer, savedBuffer, restored}
 
--- the hart of 42 words: those of the saved text in its order, and satp
+-- the hart of 43 words: those of the saved text in its order, satp and the grain
 abbrev pub hartOf : List ℕ → Hart
 hartOf words = hartWith (stateOf words)
 
--- a hart's slice has 42 words and a map's 100
+-- a hart's slice has 43 words and a map's 100
 abbrev pub fits : List ℕ → List ℕ → Bool
-fits hart map = eqb (length hart) 42 && eqb (length map) 100
+fits hart map = eqb (length hart) 43 && eqb (length map) 100
+
+-- ---- making a hart
+
+-- 02, [9]: a hart as after reset, with a grain, and its map; 1, or 0 where a length is another
+unfoldable pub makeResult : List ℕ → List ℕ → ℕ
+makeResult hart map = cond (fits hart map) 1 0
+
+unfoldable pub madeHart : ℕ → List ℕ → List ℕ → List ℕ
+madeHart grain hart map = cond (fits hart map) (wordsOf (resetMapped grain .hart .state)) hart
+
+unfoldable pub madeMap : ℕ → List ℕ → List ℕ → List ℕ
+madeMap grain hart map = cond (fits hart map) (mapWords (resetMapped grain .map)) map
 
 -- ---- steps
 
@@ -95,10 +107,10 @@ misfit = 2 ^ 64 - 1
 
 -- 0, or refusal 3, then 6, then 12
 unfoldable pub saveResult : List ℕ → List ℕ → ℕ
-saveResult hart text = cond (eqb (length hart) 42) (refusalOf (savedAnswer (hartOf hart) text)) misfit
+saveResult hart text = cond (eqb (length hart) 43) (refusalOf (savedAnswer (hartOf hart) text)) misfit
 
 unfoldable pub savedText : List ℕ → List ℕ → List ℕ
-savedText hart text = cond (eqb (length hart) 42) (savedBuffer (hartOf hart) text) text
+savedText hart text = cond (eqb (length hart) 43) (savedBuffer (hartOf hart) text) text
 
 -- what reading a text back leaves
 abbrev pub readBack : List ℕ → List ℕ → List ℕ → Stepped

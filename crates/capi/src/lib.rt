@@ -1,4 +1,4 @@
-// The interface for C: harts, maps, steps and answers as 42, 100, three and four words. A call whose slices have another length changes nothing. A memory
+// The interface for C: harts, maps, steps and answers as 43, 100, three and four words. A call whose slices have another length changes nothing. A memory
 // of page tables is words that stand at a physical address; it may have any length.
 mod maps;
 mod query;
@@ -9,20 +9,51 @@ use map::Range;
 ghost use mathlib.Core.Path.{_≡_};
 ghost use mathlib.Core.Bool.{_&&_};
 ghost use lib.Dec.{eqb, leb};
+ghost use lib.ListN.{length};
 ghost use Rattle.pmp.specs.Number.{isMode};
 ghost use Rattle.paging.specs.Memory.{memoryAt};
-ghost use Rattle.capi.specs.Calls.{stepCall, runCall, queryResult, queryAnswered, saveResult, savedText, restoreResult, restoredHart, restoredMap};
+ghost use Rattle.state.specs.Words.{wordsOf};
+ghost use Rattle.map.specs.MapWords.{mapWords};
+ghost use Rattle.capi.specs.Calls.{makeResult, madeHart, madeMap, stepCall, runCall, queryResult, queryAnswered, saveResult, savedText, restoreResult, restoredHart, restoredMap};
 
 fn fit(hart: usize, map: usize) -> bool
-    ensures { λ r. ⌜ r ≡ (eqb hart 42 && eqb map 100) ⌝ }
+    ensures { λ r. ⌜ r ≡ (eqb hart 43 && eqb map 100) ⌝ }
 {
-    (hart == 42) & (map == 100)
+    (hart == 43) & (map == 100)
 }
 
 fn queryable(mode: u64, kind: u64) -> bool
     ensures { λ r. ⌜ r ≡ (isMode mode && leb kind 2) ⌝ }
 {
     pmp::is_mode(mode) & (kind <= 2)
+}
+
+// Writes a hart and a map as words.
+fn put(given: Hart, whole: Map, hart: &mut [u64], map: &mut [u64])
+    requires { ⌜ (length (now hart) ≡ 43) × (length (now map) ≡ 100) ⌝ }
+    ensures { λ _. ⌜ now (hart .exit) ≡ wordsOf (given .state) ⌝ }
+    ensures { λ _. ⌜ now (map .exit) ≡ mapWords whole ⌝ }
+{
+    let state = given.state;
+    state::store(state, hart);
+    maps::store_map(whole, map);
+}
+
+// Makes a hart as after reset, with a grain, and its map. 1, or 0 where a length is another.
+#[no_mangle]
+pub extern "C" fn tegrwyllt_make(grain: u64, hart: &mut [u64], map: &mut [u64]) -> u64
+    ensures { λ r. ⌜ r ≡ makeResult (now (hart .entry)) (now (map .entry)) ⌝ }
+    ensures { λ _. ⌜ now (hart .exit) ≡ madeHart grain (now (hart .entry)) (now (map .entry)) ⌝ }
+    ensures { λ _. ⌜ now (map .exit) ≡ madeMap grain (now (hart .entry)) (now (map .entry)) ⌝ }
+{
+    if !fit(hart.len(), map.len()) {
+        return 0;
+    }
+    let made = Hart::reset(grain);
+    let fresh = made.hart;
+    let fresh_map = made.map;
+    put(fresh, fresh_map, hart, map);
+    1
 }
 
 // One step: its number, 0 to 17, and its arguments. 1, or 0 where a length or the number is another.
@@ -107,7 +138,7 @@ pub extern "C" fn tegrwyllt_save(hart: &[u64], text: &mut [u8]) -> u64
     ensures { λ r. ⌜ r ≡ saveResult (now (hart .entry)) (now (text .entry)) ⌝ }
     ensures { λ _. ⌜ now (text .exit) ≡ savedText (now (hart .entry)) (now (text .entry)) ⌝ }
 {
-    if hart.len() != 42 {
+    if hart.len() != 43 {
         return MISFIT;
     }
     let given = Hart {
@@ -128,7 +159,7 @@ pub extern "C" fn tegrwyllt_restore(text: &[u8], hart: &mut [u64], map: &mut [u6
         return MISFIT;
     }
     let given = Hart {
-        state: state::reset(),
+        state: state::reset(0),
     };
     let empty = Map {
         count: 0,
@@ -145,9 +176,7 @@ pub extern "C" fn tegrwyllt_restore(text: &[u8], hart: &mut [u64], map: &mut [u6
         return refusal;
     }
     let after = read.hart;
-    let state = after.state;
-    state::store(state, hart);
-    let fresh = read.map;
-    maps::store_map(fresh, map);
+    let fresh_map = read.map;
+    put(after, fresh_map, hart, map);
     0
 }

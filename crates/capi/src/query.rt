@@ -30,7 +30,7 @@ pub(crate) fn ask(
     address: u64,
     size: u64,
 ) -> Decision
-    requires { ⌜ length (now hart) ≡ 42 ⌝ }
+    requires { ⌜ length (now hart) ≡ 43 ⌝ }
     ensures { λ r. ⌜ r ≡ queryAnswer (hartOf (now (hart .entry))) (mapOfWords (now (map .entry))) (modeOf mode) (accessOf kind) address size ⌝ }
 {
     if !state::words_can_hold(hart) {

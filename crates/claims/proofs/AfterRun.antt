@@ -34,7 +34,7 @@ use Rattle.claims.proofs.Faithfulness.{back, text-sound, query-after}
 abbrev Leaves : State → List Lent → Ran → Type 0
 Leaves s steps r = (r .state ≡ afterAll s steps) × (r .remap ≡ anyRemaps s steps)
 
-words-count : (s : State) → eqb (length (wordsOf s)) 42 ≡ true
+words-count : (s : State) → eqb (length (wordsOf s)) 43 ≡ true
 unfolding wordsOf elements
 words-count s = refl
 
@@ -86,7 +86,7 @@ module _ (text : List ℕ) (steps : List Lent) (mode : Mode) (access : Access) (
   text-asked z =
       let e : refusalOf (readBack text .answer) ≡ 0 = sym refusal-is ∙ z in
       rw (known, eq-eqb (refusalOf (readBack text .answer)) 0 e)
-      (query-after (back (readBack text)) (text-sound (resetMapped .hart) (resetMapped .map) text e) steps mode access address size)
+      (query-after (back (readBack text)) (text-sound (resetMapped 0 .hart) (resetMapped 0 .map) text e) steps mode access address size)
 
   pub text-refused : (refusal ≡ 0 → ⊥) → Refused refusal ≡ ruleFromText text steps mode access address size
   unfolding ruleFromText

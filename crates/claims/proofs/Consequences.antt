@@ -43,7 +43,7 @@ packed-bytes : packed (1 ∷ 2 ∷ 3 ∷ 4 ∷ 5 ∷ 6 ∷ 7 ∷ 8 ∷ []) ≡ 0
 unfolding packed
 packed-bytes = refl
 
-reset-text : textFor (hartWith resetState) ≡ joined resetLines
+reset-text : textFor (hartWith (resetState 0)) ≡ joined resetLines
 unfolding bytesOf hexDigits lineOf linesOf keys textOf packed elements
 reset-text = refl
 
@@ -99,7 +99,7 @@ consequences =
       text-read = read-text;
       read-text = λ text words e. (text-read text words e, read-words text words e);
       unread = refused-none;
-      compiled-map = boundaries;
+      compiled-map = λ p. boundaries (p .grain) (p .cfgs) (p .addrs);
       range-found = range-found;
       range-missing = range-missing;
       query-beyond = λ h map mode access address size held s. query-beyond h map mode access address size held s;

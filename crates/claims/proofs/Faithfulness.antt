@@ -12,12 +12,12 @@ use Rattle.pmp.specs.declared.Mode.{Mode}
 use Rattle.pmp.specs.declared.Access.{Access}
 use Rattle.pmp.specs.declared.Decision.{Decision}
 use Rattle.pmp.specs.declared.Decision.the-variants.{Refused}
-use Rattle.pmp.specs.Entry.{entrySpan}
 use Rattle.pmp.specs.Rule.{isSize, byteRule, checked}
 use Rattle.pmp.proofs.Answered.{rule-answers, unrefused}
 use Rattle.steps.specs.declared.Answer.the-variants.{Refused as RefusedAnswer}
 use Rattle.steps.specs.Number.{refusalOf}
 use Rattle.state.specs.Hold.{canHold}
+use Rattle.protection.specs.Spans.{spansOf}
 use Rattle.state.specs.Texts.{hasText, textState}
 use Rattle.state.proofs.Held.{reset-holds}
 use Rattle.map.specs.declared.Map.{Map}
@@ -74,22 +74,22 @@ from-text : (start : Mapped) → FromText start → Sound start
 from-text start t =
     subst Sound (ap back (t .read)) (text-sound (t .hart) (t .map) (t .text) (ap (λ (s : Stepped). refusalOf (s .answer)) (t .read)))
 
-pub reset-sound : Sound resetMapped
-reset-sound = record { held = reset-holds; own = refl }
+pub reset-sound : (g : ℕ) → Sound (resetMapped g)
+reset-sound g = record { held = reset-holds g; own = refl }
 
 start-sound : (start : Mapped) → Start start → Sound start
-start-sound start s = ⊎-elim (λ e. rw e reset-sound) (from-text start) s
+start-sound start s = ⊎-elim (λ e. rw (e .1) (reset-sound (e .0))) (from-text start) s
 
 -- a query on a hart that can be held, with its own map, for every size: any but 1, 2, 4, 8 is refused by both
 own-query : (h : Hart) (mode : Mode) (access : Access) (address size : ℕ) → canHold (h .state) ≡ true
-    → queryAnswer h (mapFor (h .state .pmp)) mode access address size ≡ checked (h .state .pmp .cfgs) (h .state .pmp .addrs) mode access address size
+    → queryAnswer h (mapFor (h .state .pmp)) mode access address size ≡ checked (h .state .pmp .grain) (h .state .pmp .cfgs) (h .state .pmp .addrs) mode access address size
 unfolding queryAnswer checked
 own-query h mode access address size p =
-    let cfgs = h .state .pmp .cfgs in
-    let addrs = h .state .pmp .addrs in
+    let p′ = h .state .pmp in
+    let cfgs = p′ .cfgs in
     rw p (by-test (λ (d : Decision). queried cfgs (mapFor (h .state .pmp)) mode access address size ≡ d) (isSize size)
-    (byteRule (entrySpan cfgs addrs) cfgs mode access address size) (Refused 1)
-    (λ q. query-rule cfgs mode access address size addrs q)
+    (byteRule (spansOf p′) cfgs mode access address size) (Refused 1)
+    (λ q. query-rule cfgs mode access address size (p′ .grain) (p′ .addrs) q)
     (λ q. query-refused cfgs mode access address size (mapFor (h .state .pmp)) q))
 
 module _ (start : Mapped) (sound : Sound start) (steps : List Lent) where
@@ -109,22 +109,22 @@ module _ (start : Mapped) (sound : Sound start) (steps : List Lent) where
 
   ranges-left : take (left start steps .map .count) (left start steps .map .ranges) ≡ rangesOf (spansAfter start steps)
   ranges-left =
-      ap (λ (l : Mapped). take (l .map .count) (l .map .ranges)) left-own ∙ compiled-ranges (pmpAfter start steps .cfgs) (pmpAfter start steps .addrs)
+      ap (λ (l : Mapped). take (l .map .count) (l .map .ranges)) left-own ∙ compiled-ranges (pmpAfter start steps .grain) (pmpAfter start steps .cfgs) (pmpAfter start steps .addrs)
 
   faithful-after : FaithfulAfter start steps
   faithful-after =
-      let cfgs = pmpAfter start steps .cfgs in
-      let addrs = pmpAfter start steps .addrs in
+      let p = pmpAfter start steps in
+      let spans = spansOf p in
       record {
         state = ap (λ (l : Mapped). l .hart .state) left-own;
-        lawful = subst (IsMap (entrySpan cfgs addrs)) (sym ranges-left) (is-map (entrySpan cfgs addrs) (entry-below cfgs addrs));
+        lawful = subst (IsMap spans) (sym ranges-left) (is-map spans (entry-below (p .grain) (p .cfgs) (p .addrs)));
         ranges = ranges-left;
-        count = subst (λ (l : Mapped). l .map .count ≤ 33) (sym left-own) (boundaries cfgs addrs .bounded);
+        count = subst (λ (l : Mapped). l .map .count ≤ 33) (sym left-own) (boundaries (p .grain) (p .cfgs) (p .addrs) .bounded);
         answers = answers-rule;
         unrefused =
             λ mode access address size number q e.
-            unrefused access (byteRule (entrySpan cfgs addrs) cfgs mode access address size) number
-            (rule-answers (entrySpan cfgs addrs) cfgs mode access address size)
+            unrefused access (byteRule spans (p .cfgs) mode access address size) number
+            (rule-answers spans (p .cfgs) mode access address size)
             (sym (answers-rule mode access address size q) ∙ e);
       }
 

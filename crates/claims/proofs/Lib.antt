@@ -13,4 +13,5 @@ pub mod OneAccess
 pub mod NoAccess
 pub mod Deciding
 pub mod Querying
+pub mod Grain
 pub mod Consequences

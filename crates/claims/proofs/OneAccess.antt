@@ -13,7 +13,7 @@ use Rattle.pmp.specs.declared.Access.{Access}
 use Rattle.pmp.specs.declared.Access.the-variants.{Fetch, Load, Store}
 use Rattle.pmp.specs.declared.Decision.{Decision}
 use Rattle.pmp.specs.Number.{faultCause}
-use Rattle.pmp.specs.Entry.{entrySpan}
+use Rattle.protection.specs.Spans.{spansOf}
 use Rattle.pmp.specs.Rule.{isSize}
 use Rattle.pmp.proofs.RuleLaws.{checked-rule}
 use Rattle.pmp.proofs.Answered.{GrantOrFault, grants, faults, rule-answers}
@@ -96,14 +96,14 @@ module _ (h : Hart) (map : Map) where
         reached-physical (h .state .pmp) m (contextOf (h .state) access) address size stands
         (untranslated-is (effectiveMode (h .state .registers) access) (h .state .satp) physical)
         ∙ ap (byRule address)
-        (checked-rule (h .state .pmp .cfgs) (h .state .pmp .addrs) (effectiveMode (h .state .registers) access) access address size sized)
+        (checked-rule (h .state .pmp .grain) (h .state .pmp .cfgs) (h .state .pmp .addrs) (effectiveMode (h .state .registers) access) access address size sized)
 
     one-decision : (after : Stepped) → after ≡ withMap h map (accessAt (h .state) m access address size)
         → OneAccess h map access (faultCause access) address size after
     unfolding accessAt
     one-decision after e =
         go (ruleOn h access address size) refl
-        (rule-answers (entrySpan (h .state .pmp .cfgs) (h .state .pmp .addrs)) (h .state .pmp .cfgs) (effectiveMode (h .state .registers) access) access
+        (rule-answers (spansOf (h .state .pmp)) (h .state .pmp .cfgs) (effectiveMode (h .state .registers) access) access
         address size)
       where
         go : (d : Decision) → ruleOn h access address size ≡ d → GrantOrFault access d → OneAccess h map access (faultCause access) address size after

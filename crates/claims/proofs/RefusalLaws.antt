@@ -204,7 +204,7 @@ step-handed h map m step = go (isReset step) (canHold (h .state))
   where
     go : (a b : Bool)
         → Handed h map (cond a none (cond b (argumentRefusal m step) (some 3)))
-        (cond a resetDone (withMap h map (cond (a || b) (effect (h .state) m step) (refused (h .state) 3))))
+        (cond a (resetDone (h .state .pmp .grain)) (withMap h map (cond (a || b) (effect (h .state) m step) (refused (h .state) 3))))
     go true b = refl
     go false true = with-map h map (argumentRefusal m step) (effect (h .state) m step) (effect-refuses (h .state) m step)
     go false false = with-map h map (some 3) (refused (h .state) 3) refl

@@ -25,14 +25,16 @@ use Rattle.hart.specs.declared.Hart.{Hart}
 use Rattle.hart.specs.declared.Stepped.{Stepped}
 use Rattle.hart.specs.Steps.{handedBack}
 use Rattle.hart.specs.Saved.{textFor, textHolds, savedAnswer, savedBuffer, restoredDone, restoredWords, restored}
-use Rattle.claims.specs.Texts.{Typed, SavedRestored, RestoredSaved, OneText, Lossless, resaved}
+use Rattle.claims.specs.Texts.{Typed, SavedRestored, RestoredSaved, OneText, ReadPlain, Lossless, resaved}
 
 -- ---- what was saved reads back
 
--- a state that has a text has satp 0
-no-satp : (s : State) → hasText s ≡ true → s .satp ≡ 0
+-- a state that has a text has satp 0 and grain 0
+plain : (s : State) → hasText s ≡ true → (s .satp ≡ 0) × (s .pmp .grain ≡ 0)
 unfolding hasText
-no-satp s p = eqb-true (s .satp) 0 (both (eqb (s .satp) 0) _ p .0)
+plain s p =
+    let w = both (eqb (s .satp) 0) (eqb (s .pmp .grain) 0) (both (eqb (s .satp) 0 && eqb (s .pmp .grain) 0) _ p .0) in
+    (eqb-true (s .satp) 0 (w .0), eqb-true (s .pmp .grain) 0 (w .1))
 
 -- the text of a hart reads back as the hart
 text-restored : (h g : Hart) (map : Map) → Typed (h .state) → canHold (h .state) ≡ true → hasText (h .state) ≡ true
@@ -41,7 +43,7 @@ unfolding restored restoredWords
 text-restored h g map t p q =
     ap (λ (r : Reading). cond (r .ok) (restoredWords g map (r .words)) (handedBack g map (Refused 4)))
     (read-text (textWords (h .state)) (text-typed (h .state) (t .words)))
-    ∙ ap (λ (s : State). cond (textHolds s) (restoredDone s) (handedBack g map (Refused 5))) (text-state (h .state) (t .arrays) (no-satp (h .state) q))
+    ∙ ap (λ (s : State). cond (textHolds s) (restoredDone s) (handedBack g map (Refused 5))) (text-state (h .state) (t .arrays) (plain (h .state) q .0) (plain (h .state) q .1))
     ∙ rw (p, q)
 
 module _ (h : Hart) (b : List ℕ) (p : canHold (h .state) ≡ true) (q : hasText (h .state) ≡ true) (room : textLength ≤ length b) where
@@ -116,8 +118,11 @@ one-text : OneText
 one-text f g h map map′ m n text other d e =
     text-reads f h map m text d .is-text ∙ sym (text-reads g h map′ n other e .is-text)
 
+read-plain : ReadPlain
+read-plain g h map m text e = plain (h .state) (text-reads g h map m text e .fits)
+
 pub lossless : Lossless
-lossless = record { saved-restored = saved-restored; restored-saved = restored-saved; one-text = one-text }
+lossless = record { saved-restored = saved-restored; restored-saved = restored-saved; one-text = one-text; read-plain = read-plain }
 
 -- ---- saving to a buffer of the text's length and reading it back
 

@@ -12,10 +12,12 @@ use Rattle.pmp.specs.declared.Decision.{Decision}
 use Rattle.pmp.specs.declared.Decision.the-variants.{Granted, Fault}
 use Rattle.pmp.specs.Number.{faultCause}
 use Rattle.pmp.specs.Search.{lowest, anyByte, everyByte}
-use Rattle.pmp.specs.Entry.{trailingOnes, spanOf, locked}
+use Rattle.pmp.specs.Entry.{trailingOnes, spanOf, addressRead, locked}
 use Rattle.pmp.specs.Rule.{none, permission, entryDecides, noneDecides, lowestMatch, byteRule, checked}
 use Rattle.registers.specs.Hold.{registersHoldable}
 use Rattle.protection.specs.Hold.{pmpHoldable}
+use Rattle.protection.specs.Configs.{packed, unpacked, configsOf}
+use Rattle.protection.specs.Write.{configsWritten, pmpWritten}
 use Rattle.state.specs.Hold.{canHold}
 use Rattle.trap.specs.Enter.{enteredStatus, entered}
 use Rattle.trap.specs.Interrupt.{takeable, interruptTaken}
@@ -42,7 +44,7 @@ none-tells Supervisor access = refl
 none-tells Machine access = refl
 
 pub worked : AllRight settings
-unfolding lowest anyByte everyByte trailingOnes spanOf lowestMatch byteRule checked painted rangesOf
-    registersHoldable pmpHoldable all enteredStatus entered takeable interruptTaken returnedStatus returned returnStep elapsed canHold stepRule
+unfolding lowest anyByte everyByte trailingOnes spanOf addressRead lowestMatch byteRule checked painted rangesOf
+    registersHoldable pmpHoldable all enteredStatus entered takeable interruptTaken returnedStatus returned returnStep elapsed canHold stepRule packed unpacked configsOf configsWritten pmpWritten
 worked =
-    (λ mode access. refl, (refl, (refl, (refl, (refl, (refl, (refl, (refl, (refl, (refl, (refl, (λ mode access. entry-tells mode access na4 0, (none-tells, (λ mode access. entry-tells mode access napot 0, (λ mode access. refl, (none-tells, (λ mode access. refl, (λ mode access. entry-tells mode access napot 0, (none-tells, (λ mode access. refl, (none-tells, (λ mode access. entry-tells mode access napot 0, (λ mode access. refl, (λ mode access. refl, (none-tells, (none-tells, (λ mode access. entry-tells mode access napot 1, (λ mode access. refl, (λ mode access. refl, (none-tells, (λ mode access. entry-tells mode access na4 15, (λ mode access. refl, (none-tells, (refl, (refl, (refl, (refl, (refl, (refl, (refl, (refl, (refl, (refl, (refl, (refl, (refl, (refl, (refl, (refl, tt)))))))))))))))))))))))))))))))))))))))))))))))))
+    (λ mode access. refl, (refl, (refl, (refl, (refl, (refl, (refl, (refl, (refl, (refl, (refl, (λ mode access. entry-tells mode access na4 0, (none-tells, (λ mode access. entry-tells mode access napot 0, (λ mode access. refl, (none-tells, (λ mode access. refl, (λ mode access. entry-tells mode access napot 0, (none-tells, (λ mode access. refl, (none-tells, (λ mode access. entry-tells mode access napot 0, (λ mode access. refl, (λ mode access. refl, (none-tells, (none-tells, (λ mode access. entry-tells mode access napot 1, (λ mode access. refl, (λ mode access. refl, (none-tells, (λ mode access. entry-tells mode access na4 15, (λ mode access. refl, (none-tells, (refl, (refl, (refl, (refl, (refl, (refl, (refl, (refl, (refl, (refl, (refl, (refl, (refl, (refl, (refl, (refl, (refl, (refl, (refl, (refl, ((refl, refl), ((refl, refl), ((refl, refl), (refl, (refl, (refl, (refl, (refl, (refl, (refl, (refl, (refl, (refl, (refl, (refl, ((refl, refl), ((refl, refl), ((refl, refl), ((refl, refl), ((refl, refl), ((refl, refl), (refl, (refl, (refl, (refl, (refl, (refl, ((refl, refl), ((refl, refl), ((refl, refl), (refl, (refl, ((refl, refl), tt))))))))))))))))))))))))))))))))))))))))))))))))))))))))))))))))))))))))))))))))))))))

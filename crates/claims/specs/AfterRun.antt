@@ -1,4 +1,4 @@
--- 01, "What has to be nailed", and 02, [8]: what a query after a run answers, said by the registers alone. One memory is lent to the whole run.
+-- 01, "What has to be nailed", and 02, [8] and [9]: what a query after a run answers, said by the registers alone. One memory is lent to the whole run.
 use Prim.Native.Nat.{ℕ}
 use mathlib.Core.Bool.{cond}
 use mathlib.Core.List.{List, []}
@@ -24,11 +24,11 @@ stepsIn m numbers = cond (nameSteps numbers) (lent m (stepsOf numbers)) []
 -- the byte rule on the registers that the steps leave, with no map read; refusal 1 for a size other than 1, 2, 4, 8
 abbrev pub ruleAfter : State → List Lent → Mode → Access → ℕ → ℕ → Decision
 ruleAfter s steps mode access address size =
-    checked (afterAll s steps .pmp .cfgs) (afterAll s steps .pmp .addrs) mode access address size
+    checked (afterAll s steps .pmp .grain) (afterAll s steps .pmp .cfgs) (afterAll s steps .pmp .addrs) mode access address size
 
 -- what reading a text back gives, where nothing stood before
 abbrev pub readBack : List ℕ → Stepped
-readBack text = restored (resetMapped .hart) (resetMapped .map) text
+readBack text = restored (resetMapped 0 .hart) (resetMapped 0 .map) text
 
 -- the same from the state of a text; a refused text answers with its refusal
 unfoldable pub ruleFromText : List ℕ → List Lent → Mode → Access → ℕ → ℕ → Decision

@@ -18,7 +18,7 @@ use Rattle.pmp.specs.declared.Access.the-variants.{Fetch, Load, Store}
 use Rattle.pmp.specs.declared.Decision.{Decision}
 use Rattle.pmp.specs.declared.Span.{Span}
 use Rattle.pmp.specs.Number.{modeOf}
-use Rattle.pmp.specs.Entry.{entrySpan, matches}
+use Rattle.pmp.specs.Entry.{matches}
 use Rattle.pmp.specs.Rule.{ownerDecides, byteRule, isSize, ownerOf}
 use Rattle.steps.specs.declared.Trap.the-variants.{Exception}
 use Rattle.steps.specs.declared.Operation.{Operation}
@@ -36,6 +36,7 @@ use Rattle.registers.specs.Effective.{effectiveMode}
 use Rattle.registers.specs.Update.{levelOf, withPc, withCounters}
 use Rattle.protection.specs.declared.Pmp.{Pmp}
 use Rattle.protection.specs.Configs.{packed}
+use Rattle.protection.specs.Spans.{spansOf}
 use Rattle.protection.specs.Read.{pmpRead}
 use Rattle.paging.specs.Memory.{Memory, lawful}
 use Rattle.state.specs.declared.State.{State}
@@ -48,12 +49,11 @@ use Rattle.map.specs.declared.Map.{Map}
 use Rattle.map.specs.Lookup.{findRange, rangesIn, ownerIn}
 use Rattle.map.specs.Ranges.{IsMap}
 use Rattle.map.specs.Boundaries.{Boundaries}
-use Rattle.map.specs.Compiled.{compiled}
 use Rattle.text.specs.Text.{textOf, readAs, readText}
 use Rattle.engine.specs.Effects.{withRegisters, withSatp, satpOperated}
 use Rattle.hart.specs.declared.Hart.{Hart}
 use Rattle.hart.specs.declared.Stepped.{Stepped}
-use Rattle.hart.specs.Steps.{hartWith, handedBack, stepped}
+use Rattle.hart.specs.Steps.{mapFor, hartWith, handedBack, stepped}
 use Rattle.hart.specs.Queries.{queryAnswer}
 use Rattle.hart.specs.Saved.{textFor}
 use Rattle.claims.specs.InterruptOrder.{TakesFirst}
@@ -128,7 +128,7 @@ elapsedBy h cycles retired =
 -- the byte rule on all bytes of an access at once, in its effective mode
 abbrev pub ruleOn : Hart → Access → ℕ → ℕ → Decision
 ruleOn h access address size =
-    byteRule (entrySpan (h .state .pmp .cfgs) (h .state .pmp .addrs)) (h .state .pmp .cfgs) (effectiveMode (h .state .registers) access) access address size
+    byteRule (spansOf (h .state .pmp)) (h .state .pmp .cfgs) (effectiveMode (h .state .registers) access) access address size
 
 -- the bit of an entry's byte for an access: R is bit 0, W bit 1, X bit 2
 abbrev pub bitFor : Access → ℕ
@@ -330,15 +330,15 @@ pub record Consequences : Type 0 where
   pub lines : (s : State) → (textFor (hartWith s) ≡ keyedText (keyed s)) × (length (keyed s) ≡ 41) × (length (textFor (hartWith s)) ≡ 1027)
   pub digits : hexDigits 16 0x0123456789ABCDEF ≡ bytesOf "0123456789abcdef"
   -- "The reset state is that text with every value 0 except mode 3, pc 1000, mstatus a00000000."
-  pub reset-text : textFor (hartWith resetState) ≡ joined resetLines
+  pub reset-text : textFor (hartWith (resetState 0)) ≡ joined resetLines
   -- reading and writing a text are inverse: 41 words below 2^64 are read from their text, what is read as words is their text, and what is refused is no text
   pub text-read : (words : List ℕ) → Words 41 words → readText (textOf words) ≡ readAs words
   pub read-text : (text words : List ℕ) → readText text ≡ readAs words → (text ≡ textOf words) × Words 41 words
   pub unread : (text words : List ℕ) → readText text .ok ≡ false → Words 41 words → text ≡ textOf words → ⊥
   -- "The map lists ranges (first byte, last byte, owner), owner being the lowest entry matching each byte or none. In order, no gap, no overlap,
   -- from 0 to 2^56-1, neighbours never with one owner." 02, [7]: "sixteen entries make at most 32 inner boundaries, each the first byte an entry
-  -- matches or the byte after its last". Both for any bytes and addresses of the sixteen entries
-  pub compiled-map : (cfgs addrs : List ℕ) → Boundaries (entrySpan cfgs addrs) (compiled cfgs addrs)
+  -- matches or the byte after its last". Both for any grain, bytes and addresses of the sixteen entries
+  pub compiled-map : (p : Pmp) → Boundaries (spansOf p) (mapFor p)
   -- [5]: "a query reads, for each byte of the access, the lowest-numbered range that holds it": what is found is it, and where nothing is found no
   -- range holds the byte
   pub range-found : (rs : List Range) (byte : ℕ) (r : Range) → findRange rs byte ≡ some r → LowestHolding rs byte r

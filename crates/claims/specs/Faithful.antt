@@ -1,4 +1,4 @@
--- 01, "What has to be nailed", and 02, [5] and [8]: demand 3, one claim about the whole list of steps, each with the memory lent at it.
+-- 01, "What has to be nailed", and 02, [5], [8] and [9]: demand 3, one claim about the whole list of steps, each with the memory lent at it.
 use Prim.Native.Nat.{ℕ, _+_, _≤_, _<_}
 use mathlib.Core.Path.{_≡_}
 use mathlib.Core.Bool.{true}
@@ -10,10 +10,10 @@ use Rattle.pmp.specs.declared.Access.{Access}
 use Rattle.pmp.specs.declared.Decision.{Decision}
 use Rattle.pmp.specs.declared.Decision.the-variants.{Refused}
 use Rattle.pmp.specs.declared.Span.{Span}
-use Rattle.pmp.specs.Entry.{entrySpan}
 use Rattle.pmp.specs.Rule.{isSize, byteRule}
 use Rattle.steps.specs.declared.Answer.the-variants.{Done}
 use Rattle.protection.specs.declared.Pmp.{Pmp}
+use Rattle.protection.specs.Spans.{spansOf}
 use Rattle.state.specs.Hold.{canHold}
 use Rattle.map.specs.declared.Map.{Map}
 use Rattle.map.specs.declared.Range.{Range}
@@ -35,9 +35,9 @@ pub record FromText (start : Mapped) : Type 0 where
   pub map : Map
   pub read : restored hart map text ≡ handedBack (start .hart) (start .map) Done
 
--- a run starts from the reset state and reset map, or from what reading a text back gives
+-- a run starts from the reset state and reset map of some grain, or from what reading a text back gives
 abbrev pub Start : Mapped → Type 0
-Start start = (start ≡ resetMapped) ⊎ FromText start
+Start start = ((grain : ℕ) × (start ≡ resetMapped grain)) ⊎ FromText start
 
 -- the hart and map that the steps leave
 abbrev pub left : Mapped → List Lent → Mapped
@@ -49,7 +49,7 @@ pmpAfter start steps = afterAll (start .hart .state) steps .pmp
 
 -- the bytes that their entries match
 abbrev pub spansAfter : Mapped → List Lent → ℕ → Span
-spansAfter start steps = entrySpan (pmpAfter start steps .cfgs) (pmpAfter start steps .addrs)
+spansAfter start steps = spansOf (pmpAfter start steps)
 
 -- what a query on the hart and map left answers
 abbrev pub queryAfter : Mapped → List Lent → Mode → Access → ℕ → ℕ → Decision

@@ -8,4 +8,5 @@ pub mod AfterRun
 pub mod Worked
 pub mod InterruptOrder
 pub mod SavedLines
+pub mod Grain
 pub mod Consequences

@@ -1,4 +1,4 @@
--- 01, "Steps", with refusal 7 as 02, [5] widens it, and 12 and 13 of 02, [8]: the table of refusals and its order. A refusal returns its number and no more, and changes nothing.
+-- 01, "Steps", with refusal 7 as 02, [5] widens it, and 12 and 13 of 02, [8] and [9]: the table of refusals and its order. A refusal returns its number and no more, and changes nothing.
 use Prim.Native.Nat.{ℕ, _+_, _*_, _%_, _^_}
 use mathlib.Core.Path.{_≡_}
 use mathlib.Core.Bool.{Bool, true, cond, not, _&&_, _||_}
@@ -92,10 +92,10 @@ queryRefusal s map address size =
     (some 1))
     (some 3)
 
--- satp or SUM, bit 18 of mstatus, is not 0, or medeleg has a bit outside 0x3FF
+-- satp, the grain or SUM, bit 18 of mstatus, is not 0, or medeleg has a bit outside 0x3FF
 abbrev pub textless : State → Bool
 textless s =
-    not (eqb (s .satp) 0 && (not (testBit (s .registers .mstatus) 18) && eqb (bitAnd (s .registers .medeleg) 0x3FF) (s .registers .medeleg)))
+    not ((eqb (s .satp) 0 && eqb (s .pmp .grain) 0) && (not (testBit (s .registers .mstatus) 18) && eqb (bitAnd (s .registers .medeleg) 0x3FF) (s .registers .medeleg)))
 
 -- 3 before 6: the buffer for saving is shorter than 1,027 bytes; 6 before 12
 abbrev pub saveRefusal : State → List ℕ → Option ℕ

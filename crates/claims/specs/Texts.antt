@@ -1,5 +1,5 @@
--- 01, "Saved text": saving and reading back lose nothing, and no second text stands for the same state; by 02, [8] without the states that refusal 12
--- refuses.
+-- 01, "Saved text": saving and reading back lose nothing, and no second text stands for the same state; by 02, [8] and [9] without the states that refusal
+-- 12 refuses.
 use Prim.Native.Nat.{ℕ, _^_, _≤_, _<_}
 use mathlib.Core.Path.{_≡_}
 use mathlib.Core.Bool.{true, cond}
@@ -41,11 +41,16 @@ OneText =
     (f g h : Hart) (map map′ m n : Map) (text other : List ℕ) → restored f map text ≡ handedBack h m Done → restored g map′ other ≡ handedBack h n Done
     → text ≡ other
 
+-- 02, [9] and [10]: a text is read as a state with satp 0 and grain 0
+abbrev pub ReadPlain : Type 0
+ReadPlain = (g h : Hart) (map m : Map) (text : List ℕ) → restored g map text ≡ handedBack h m Done → (h .state .satp ≡ 0) × (h .state .pmp .grain ≡ 0)
+
 -- the text claim of demand 2
 pub record Lossless : Type 0 where
   pub saved-restored : SavedRestored
   pub restored-saved : RestoredSaved
   pub one-text : OneText
+  pub read-plain : ReadPlain
 
 -- saving and reading back at once
 unfoldable pub resaved : Hart → Map → Stepped

@@ -1,9 +1,9 @@
--- 01, "Hand-checked settings", W1 to W12, the entries of [5] in W1 to W9, 02's own case of [2], and writes to satp of [8], as one table. Page tables have
+-- 01, "Hand-checked settings", W1 to W12, the entries of [5] in W1 to W9, 02's own case of [2], writes to satp of [8], and [9] with G of 1, 2 and 10, as one table. Page tables have
 -- their own, in paging/specs/Worked.
 use Prim.Native.Nat.{ℕ, zero, suc, _+_, _-_, _*_, _^_}
 use mathlib.Core.Path.{_≡_}
 use mathlib.Core.List.{List, [], _∷_}
-use lib.ListN.{length, replicate}
+use lib.ListN.{length, getD, replicate}
 use Rattle.pmp.specs.declared.Mode.{Mode}
 use Rattle.pmp.specs.declared.Access.{Access}
 use Rattle.pmp.specs.declared.Decision.{Decision}
@@ -19,26 +19,35 @@ use Rattle.steps.specs.declared.Step.the-variants.{Event as EventStep}
 use Rattle.registers.specs.declared.Registers.{Registers}
 use Rattle.registers.specs.Hold.{resetRegisters}
 use Rattle.registers.specs.Update.{withFlow, withStatus, withInterrupts, withCounters}
+use Rattle.protection.specs.declared.Pmp.{Pmp}
+use Rattle.protection.specs.Configs.{configsOf}
 use Rattle.protection.specs.Hold.{resetPmp}
+use Rattle.protection.specs.Read.{pmpRead}
 use Rattle.paging.specs.Memory.{memoryAt}
 use Rattle.map.specs.declared.Range.{Range}
 use Rattle.map.specs.Ranges.{range}
 use Rattle.map.specs.Painting.{rangesOf}
-use Rattle.engine.specs.Effects.{satpOperated, stepRule}
+use Rattle.engine.specs.Effects.{pmpOperated, satpOperated, stepRule}
 
 pub data Setting : Type 0 where
   -- entry 0 alone: an access of `size` bytes faults in every mode, whatever its kind, by this entry
   faults : (cfg addr address size entry : ℕ) → Setting
   -- entry 0 alone matches the bytes from first to last
   covers : (cfg addr first last : ℕ) → Setting
-  -- sixteen entries have this map
-  mapped : (cfgs addrs : List ℕ) → List Range → Setting
   -- sixteen entries have this many ranges
   counted : (cfgs addrs : List ℕ) → ℕ → Setting
   -- this entry, or none, decides on an access of `size` bytes, in every mode and whatever its kind
   decided : (cfgs addrs : List ℕ) (address size entry : ℕ) → Setting
   -- 02, [8]: satp after an operation on the value held
   satp : (held : ℕ) → Operation → (operand value : ℕ) → Setting
+  -- 02, [9]: by the grain, entry 1 behind entry 0 matches the bytes from first to last
+  second : (grain cfg₀ addr₀ cfg addr first last : ℕ) → Setting
+  -- sixteen entries have this map by the grain
+  mappedBy : (grain : ℕ) (cfgs addrs : List ℕ) → List Range → Setting
+  -- by the grain, pmpcfg0 after an operation on the value held
+  configured : (grain held : ℕ) → Operation → (operand value : ℕ) → Setting
+  -- by the grain and entry 0's byte, what pmpaddr0 reads, and what is stored after an operation
+  addressed : (grain cfg held : ℕ) → Operation → (operand read stored : ℕ) → Setting
   -- after the step a register has this value
   leaves : Registers → Step → (Registers → ℕ) → ℕ → Setting
 
@@ -52,20 +61,38 @@ decider (Granted entry) = entry
 decider (Fault cause entry) = entry
 decider (Refused number) = 17
 
+-- protection registers with a grain, pmpcfg0 and pmpaddr0, and the others 0
+abbrev pub registersBy : ℕ → ℕ → ℕ → Pmp
+registersBy grain pmpcfg0 pmpaddr0 = record { grain = grain; cfgs = configsOf pmpcfg0 0; addrs = alone pmpaddr0 }
+
+-- after an operation on one of them
+abbrev pub operatedBy : Pmp → Operation → ℕ → ℕ → Pmp
+operatedBy p op number operand = pmpOperated p op number operand (pmpRead p number)
+
 -- what a setting says
 abbrev pub Right : Setting → Type 0
 Right (faults cfg addr address size entry) =
-    (mode : Mode) (access : Access) → checked (alone cfg) (alone addr) mode access address size ≡ Fault (faultCause access) entry
-Right (covers cfg addr first last) = entrySpan (alone cfg) (alone addr) 0 ≡ record { low = first; high = last + 1 }
-Right (mapped cfgs addrs ranges) = rangesOf (entrySpan cfgs addrs) ≡ ranges
-Right (counted cfgs addrs n) = length (rangesOf (entrySpan cfgs addrs)) ≡ n
-Right (decided cfgs addrs address size entry) = (mode : Mode) (access : Access) → decider (checked cfgs addrs mode access address size) ≡ entry
+    (mode : Mode) (access : Access) → checked 0 (alone cfg) (alone addr) mode access address size ≡ Fault (faultCause access) entry
+Right (covers cfg addr first last) = entrySpan 0 (alone cfg) (alone addr) 0 ≡ record { low = first; high = last + 1 }
+Right (counted cfgs addrs n) = length (rangesOf (entrySpan 0 cfgs addrs)) ≡ n
+Right (decided cfgs addrs address size entry) = (mode : Mode) (access : Access) → decider (checked 0 cfgs addrs mode access address size) ≡ entry
 Right (satp held op operand value) = satpOperated held op operand ≡ value
-Right (leaves r step register value) = register (stepRule (record { registers = r; pmp = resetPmp; satp = 0 }) (memoryAt [] 0) step .state .registers) ≡ value
+Right (second grain cfg₀ addr₀ cfg addr first last) =
+    entrySpan grain (cfg₀ ∷ cfg ∷ replicate 14 0) (addr₀ ∷ addr ∷ replicate 14 0) 1 ≡ record { low = first; high = last + 1 }
+Right (mappedBy grain cfgs addrs ranges) = rangesOf (entrySpan grain cfgs addrs) ≡ ranges
+Right (configured grain held op operand value) = pmpRead (operatedBy (registersBy grain held 0) op 0x3A0 operand) 0x3A0 ≡ value
+Right (addressed grain cfg held op operand read stored) =
+    let p = registersBy grain cfg held in
+    (pmpRead p 0x3B0 ≡ read) × (getD (operatedBy p op 0x3B0 operand .addrs) 0 0 ≡ stored)
+Right (leaves r step register value) = register (stepRule (record { registers = r; pmp = resetPmp 0; satp = 0 }) (memoryAt [] 0) step .state .registers) ≡ value
 
 abbrev pub AllRight : List Setting → Type 0
 AllRight [] = Unit {0}
 AllRight (s ∷ settings) = Right s × AllRight settings
+
+-- with a grain of 4 bytes
+abbrev pub mapped : List ℕ → List ℕ → List Range → Setting
+mapped cfgs addrs ranges = mappedBy 0 cfgs addrs ranges
 
 -- configuration bytes with R, W and X
 abbrev pub tor : ℕ
@@ -121,7 +148,7 @@ settings =
     ∷ covers napot (2 ^ 54 - 1) 0 (2 ^ 56 - 1)
     ∷ covers tor (2 ^ 54 - 1) 0 (2 ^ 56 - 5)
     -- W7 to W9
-    ∷ mapped (resetPmp .cfgs) (resetPmp .addrs) (range 0 (2 ^ 56 - 1) none ∷ [])
+    ∷ mapped (resetPmp 0 .cfgs) (resetPmp 0 .addrs) (range 0 (2 ^ 56 - 1) none ∷ [])
     ∷ mapped (na4 ∷ napot ∷ replicate 14 0) (3 ∷ 0x1FF ∷ replicate 14 0)
     (range 0 0xB 1 ∷ range 0xC 0xF 0 ∷ range 0x10 0xFFF 1 ∷ range 0x1000 (2 ^ 56 - 1) none ∷ [])
     ∷ mapped (replicate entries na4) odd (alternating entries 0)
@@ -141,7 +168,7 @@ settings =
     ∷ decided (alone napot) (alone (2 ^ 54 - 1)) (2 ^ 56 - 4) 8 none
     ∷ decided (alone tor) (alone (2 ^ 54 - 1)) (2 ^ 56 - 8) 8 0
     ∷ decided (alone tor) (alone (2 ^ 54 - 1)) (2 ^ 56 - 4) 4 none
-    ∷ decided (resetPmp .cfgs) (resetPmp .addrs) 0 8 none
+    ∷ decided (resetPmp 0 .cfgs) (resetPmp 0 .addrs) 0 8 none
     ∷ decided (na4 ∷ napot ∷ replicate 14 0) (3 ∷ 0x1FF ∷ replicate 14 0) 8 4 1
     ∷ decided (na4 ∷ napot ∷ replicate 14 0) (3 ∷ 0x1FF ∷ replicate 14 0) 8 8 0
     ∷ decided (na4 ∷ napot ∷ replicate 14 0) (3 ∷ 0x1FF ∷ replicate 14 0) 0xFFC 8 1
@@ -170,4 +197,47 @@ settings =
     ∷ satp 0x8000000000000001 Set 0x4000000000000002 0x8000000000000001
     ∷ satp 0x8000000000000003 Clear 0x8000000000000001 0x0000000000000002
     ∷ satp 0x8000000000000003 Read 0 0x8000000000000003
+    -- [9], G of 1, a grain of 8 bytes: TOR's bounds without their lowest bit, whatever A is before; bounds that lie in one grain match nothing
+    ∷ second 1 0 3 tor 5 8 15
+    ∷ second 1 napot 3 tor 4 8 15
+    ∷ mappedBy 1 (0 ∷ tor ∷ replicate 14 0) (2 ∷ 3 ∷ replicate 14 0) (range 0 (2 ^ 56 - 1) none ∷ [])
+    ∷ second 1 0 0 napot 0 0 7
+    ∷ addressed 1 0 0x7 Read 0 0x6 0x7
+    ∷ addressed 1 tor 0x7 Read 0 0x6 0x7
+    ∷ addressed 1 napot 0x6 Read 0 0x6 0x6
+    -- A=2 leaves a whole byte, each for itself, as made by set or clear; with G of 0 it is taken; a locked byte stays as before
+    ∷ configured 1 0x0F08 Write 0x1F17 0x1F08
+    ∷ configured 1 0x08 Set 0x10 0x18
+    ∷ configured 1 0x00 Set 0x17 0x00
+    ∷ configured 1 0x1F Clear 0x08 0x1F
+    ∷ configured 0 0x1F Clear 0x08 0x17
+    ∷ configured 1 0x00 Write 0x97 0x00
+    ∷ configured 1 0x98 Write 0x1F0F 0x1F98
+    -- G of 2, 16 bytes: set and clear start from what is read, and a write stores all bits
+    ∷ second 2 0 0 napot 0 0 15
+    ∷ second 2 0 0 napot 6 0 63
+    ∷ second 2 0 0 napot 4 16 31
+    ∷ second 2 napot 7 tor 13 16 47
+    ∷ mappedBy 2 (napot ∷ tor ∷ replicate 14 0) (4 ∷ 15 ∷ replicate 14 0)
+    (range 0 15 none ∷ range 16 31 0 ∷ range 32 47 1 ∷ range 48 (2 ^ 56 - 1) none ∷ [])
+    ∷ addressed 2 0 0x7 Read 0 0x4 0x7
+    ∷ addressed 2 napot 0x6 Read 0 0x7 0x6
+    ∷ addressed 2 tor 0x7 Set 0 0x4 0x4
+    ∷ addressed 2 napot 0x4 Set 0x8 0x5 0xD
+    ∷ addressed 2 napot 0x6 Clear 0x4 0x7 0x3
+    ∷ addressed 2 tor 0x7 Write 0x3 0x4 0x3
+    -- G of 10, 4,096 bytes, up to the end of memory; all ones, stored with A=0, read with bit G the lowest one set
+    ∷ second 10 0 0 napot 0 0 0xFFF
+    ∷ second 10 0 0 napot 0x240 0 0x1FFF
+    ∷ second 10 napot 0x7FF tor 0xFFF 0x1000 0x2FFF
+    ∷ second 10 0 0 tor (2 ^ 54 - 1) 0 (2 ^ 56 - 0x1001)
+    ∷ second 10 0 0 napot (2 ^ 54 - 1) 0 (2 ^ 56 - 1)
+    ∷ mappedBy 10 (alone tor) (alone 0x3FF) (range 0 (2 ^ 56 - 1) none ∷ [])
+    ∷ addressed 10 0 0 Write (2 ^ 64 - 1) 0 (2 ^ 54 - 1)
+    ∷ addressed 10 0 (2 ^ 54 - 1) Read 0 (2 ^ 54 - 2 ^ 10) (2 ^ 54 - 1)
+    ∷ addressed 10 napot 0 Read 0 0x1FF 0
+    ∷ configured 10 0x18 Clear 0x18 0x00
+    -- reading and matching take a G above 10 as 0
+    ∷ second 11 0 3 tor 5 12 19
+    ∷ addressed 11 0 0x7 Read 0 0x7 0x7
     ∷ []

@@ -39,8 +39,9 @@ fn query_after(
     left.query(fresh, mode, access, address, size)
 }
 
-// A query after a run from reset.
+// A query after a run from reset, of a hart that is made with a grain.
 pub fn query_from_reset(
+    grain: u64,
     memory: &[u64],
     base: u64,
     steps: &[u64],
@@ -49,9 +50,9 @@ pub fn query_from_reset(
     address: u64,
     size: u64,
 ) -> Decision
-    ensures { λ r. ⌜ r ≡ ruleAfter resetState (stepsIn (memoryAt (now (memory .entry)) base) (now (steps .entry))) mode access address size ⌝ }
+    ensures { λ r. ⌜ r ≡ ruleAfter (resetState grain) (stepsIn (memoryAt (now (memory .entry)) base) (now (steps .entry))) mode access address size ⌝ }
 {
-    let start = Hart::reset();
+    let start = Hart::reset(grain);
     let hart = start.hart;
     let map = start.map;
     query_after(hart, map, memory, base, steps, mode, access, address, size)
@@ -70,7 +71,7 @@ pub fn query_from_text(
 ) -> Decision
     ensures { λ r. ⌜ r ≡ ruleFromText (now (text .entry)) (stepsIn (memoryAt (now (memory .entry)) base) (now (steps .entry))) mode access address size ⌝ }
 {
-    let start = Hart::reset();
+    let start = Hart::reset(0);
     let blank = start.hart;
     let given = start.map;
     let read = blank.restore(given, text);

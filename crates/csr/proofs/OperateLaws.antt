@@ -12,7 +12,7 @@ use Rattle.csr.specs.Permit.{attemptsWrite}
 use Rattle.csr.specs.Store.{registersWritten}
 use Rattle.csr.specs.Operate.{operated, modifiedFrom, registersOperated}
 
-module _ (w : List ℕ) (fit : length w ≡ 42) (op : Operation) (n operand old : ℕ) {b : Bool} (eb : b ≡ attemptsWrite op) where
+module _ (w : List ℕ) (fit : length w ≡ 43) (op : Operation) (n operand old : ℕ) {b : Bool} (eb : b ≡ attemptsWrite op) where
   pub stores : b ≡ true → {from value : ℕ} → from ≡ modifiedFrom (registersOf w) n old → value ≡ operated op from operand → {x : List ℕ}
       → x ≡ storedRegisters (registersWritten (registersOf w) n value) w
       → x ≡ storedRegisters (registersOperated (loadedRegisters w) op n operand old) w

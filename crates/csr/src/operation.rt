@@ -23,7 +23,7 @@ pub fn value_written(operation: Operation, from: u64, operand: u64) -> u64
 
 // What a set or a clear starts from: the SEIP line must not stick in mip.
 fn modified_from(words: &[u64], number: u64, old: u64) -> u64
-    requires { ⌜ length (now words) ≡ 42 ⌝ }
+    requires { ⌜ length (now words) ≡ 43 ⌝ }
     ensures { λ from. ⌜ from ≡ modifiedFrom (registersOf (now (words .entry))) number old ⌝ }
 {
     if number == 0x344 {
@@ -37,7 +37,7 @@ fn modified_from(words: &[u64], number: u64, old: u64) -> u64
 pub fn operate(words: &mut [u64], operation: Operation, number: u64, operand: u64, old: u64)
     ensures { λ _. ⌜ now (words .exit) ≡ storedRegisters (registersOperated (loadedRegisters (now (words .entry))) operation number operand old) (now (words .entry)) ⌝ }
 {
-    if words.len() != 42 {
+    if words.len() != 43 {
         return;
     }
     if attempts_write(operation) {

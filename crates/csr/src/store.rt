@@ -29,7 +29,7 @@ fn tvec_written(old: u64, value: u64) -> u64
 
 // A write of any value to any number, in the words where they lie: each number stores to one word at most, and no other moves.
 pub(crate) fn write(words: &mut [u64], number: u64, value: u64)
-    requires { ⌜ length (now words) ≡ 42 ⌝ }
+    requires { ⌜ length (now words) ≡ 43 ⌝ }
     ensures { λ _. ⌜ now (words .exit) ≡ storedRegisters (registersWritten (registersOf (now (words .entry))) number value) (now (words .entry)) ⌝ }
 {
     match number {

@@ -144,7 +144,7 @@ module _ (s : State) (p : canHold s ≡ true) where
     access-step-holds Store address size = access-holds Store address size
 
     pub effect-holds : (step : Step) → Holds (effect s m step)
-    effect-holds Reset = reset-holds
+    effect-holds Reset = reset-holds (s .pmp .grain)
     effect-holds (Csr op number operand) = csr-holds op number operand
     effect-holds (AccessStep access address size) = access-step-holds access address size
     effect-holds (EventStep event) = on-registers _ (event-holdable (s .registers) registers-held event)

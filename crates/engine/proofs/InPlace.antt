@@ -78,17 +78,17 @@ pub apart-tells : (s : State) (e : Effect) {a : Answer} {x : State} → s .pmp �
     → Tells s e (record { answer = a; held = true; remap = false }) x
 apart-tells s e p d = (ap (λ (y : Answer). record { answer = y; held = true; remap = false }) (d .0) ∙ apart-taken s e p, d .1)
 
-pub reset-back : stateOf (wordsOf resetState) ≡ resetState
+pub reset-back : (g : ℕ) → stateOf (wordsOf (resetState g)) ≡ resetState g
 unfolding wordsOf elements packed unpacked configsOf
-reset-back = refl
+reset-back g = refl
 
 -- pc, stored where it lies
-pc-stored : (w : List ℕ) → length w ≡ 42 → (pc : ℕ) → stateOf (set w 1 pc) ≡ withRegisters (stateOf w) (withPc (registersOf w) pc)
+pc-stored : (w : List ℕ) → length w ≡ 43 → (pc : ℕ) → stateOf (set w 1 pc) ≡ withRegisters (stateOf w) (withPc (registersOf w) pc)
 pc-stored w fit pc =
     let r = withPc (registersOf w) pc in
     ap stateOf (one-stored w fit 1 pc r (omega arith) refl) ∙ registers-stored w fit r
 
-module _ (w : List ℕ) (fit : length w ≡ 42) where
+module _ (w : List ℕ) (fit : length w ≡ 43) where
   -- registers that were read, an outcome that a rule made of them, and what was left of it
   pub left : (rule : Registers → Outcome) {r : Registers} {o : Outcome} {a : Answer} {x : State} → r ≡ loadedRegisters w → o ≡ rule r
       → a ≡ o .answer → x ≡ withRegisters (stateOf w) (o .registers) → Does (onRegisters (stateOf w) (rule (registersOf w))) a x

@@ -140,7 +140,7 @@ module _ (l : List ℕ) (i : ℕ) (m : Memory) (s : State) (done : length l ≤ 
 -- ---- the call
 
 abbrev pub runTest : List ℕ → List ℕ → Bool
-runTest w steps = eqb (length w) 42 && nameSteps steps
+runTest w steps = eqb (length w) 43 && nameSteps steps
 
 module _ (w : List ℕ) (m : Memory) (steps answers : List ℕ) where
   pub unrun : runTest w steps ≡ false → ran w m steps answers ≡ record { remap = false; words = w; answers = answers; state = stateOf w }
@@ -148,7 +148,7 @@ module _ (w : List ℕ) (m : Memory) (steps answers : List ℕ) where
   unrun e = rw e
 
   -- the words left are those of the state left
-  pub run-done : runTest w steps ≡ true → (x : List ℕ) → Words 42 x → stateOf x ≡ afterAll (stateOf w) (lent m (stepsOf steps)) → x ≡ ran w m steps answers .words
+  pub run-done : runTest w steps ≡ true → (x : List ℕ) → Words 43 x → stateOf x ≡ afterAll (stateOf w) (lent m (stepsOf steps)) → x ≡ ran w m steps answers .words
   unfolding ran
   run-done e x t p = rw e (state-words x t p)
 

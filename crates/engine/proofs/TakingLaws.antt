@@ -36,6 +36,6 @@ pub still-held : (held : Bool) (s : State) (m : Memory) (step : Step) → held �
 still-held held s m step q = go (isReset step) held refl q
   where
     go : (a b : Bool) → isReset step ≡ a → b ≡ canHold s → (a || b) ≡ canHold (cond (a || b) (effect s m step) (refused s 3) .state)
-    go true b e f = sym (rw (only-reset step e) reset-holds)
+    go true b e f = sym (rw (only-reset step e) (reset-holds (s .pmp .grain)))
     go false true e f = sym (effect-holds s (sym f) m step)
     go false false e f = f

@@ -1,4 +1,4 @@
--- 01, "Steps", and 02, [5] and [8]: what each of the eighteen steps does to the state and answers, with the memory lent to it. No map is read.
+-- 01, "Steps", and 02, [5], [8] and [9]: what each of the eighteen steps does to the state and answers, with the memory lent to it. No map is read.
 use Prim.Native.Nat.{ℕ}
 use mathlib.Core.Bool.{Bool, true, false, cond, _||_}
 use lib.Dec.{eqb, ltb}
@@ -126,9 +126,9 @@ accessStep s m Store address size = accessAt s m Store address size
 abbrev pub eventEffect : State → Event → Effect
 eventEffect s event = onRegisters s (eventStep (s .registers) event)
 
--- what each step does where refusal 3 does not apply
+-- what each step does where refusal 3 does not apply; reset keeps the grain, but turns one above 10 into 0
 abbrev pub effect : State → Memory → Step → Effect
-effect s m Reset = effectOf resetState Done
+effect s m Reset = effectOf (resetState (s .pmp .grain)) Done
 effect s m (Csr op number operand) = csrStep s op number operand
 effect s m (AccessStep access address size) = accessStep s m access address size
 effect s m (EventStep event) = eventEffect s event

@@ -60,10 +60,10 @@ pub record Ran : Type 0 where
   pub answers : List ℕ
   pub state : State
 
--- the words are 42, and each three numbers name a step; else nothing is done
+-- the words are 43, and each three numbers name a step; else nothing is done
 unfoldable pub ran : List ℕ → Memory → List ℕ → List ℕ → Ran
 ran words m steps answers =
-    cond (eqb (length words) 42 && nameSteps steps)
+    cond (eqb (length words) 43 && nameSteps steps)
     (record {
       remap = anyRemaps (stateOf words) (lent m (stepsOf steps));
       words = wordsOf (afterAll (stateOf words) (lent m (stepsOf steps)));

@@ -23,7 +23,7 @@ fn access_at(
     address: u64,
     size: u64,
 ) -> Answer
-    requires { ⌜ length (now words) ≡ 42 ⌝ }
+    requires { ⌜ length (now words) ≡ 43 ⌝ }
     ensures { λ r. ⌜ r ≡ accessAt (stateOf (now (words .entry))) (memoryAt (now (memory .entry)) base) access address size .answer ⌝ }
     ensures { λ _. ⌜ stateOf (now (words .exit)) ≡ accessAt (stateOf (now (words .entry))) (memoryAt (now (memory .entry)) base) access address size .state ⌝ }
 {
@@ -55,7 +55,7 @@ pub(crate) fn step_access(
     address: u64,
     size: u64,
 ) -> Answer
-    requires { ⌜ length (now words) ≡ 42 ⌝ }
+    requires { ⌜ length (now words) ≡ 43 ⌝ }
     ensures { λ r. ⌜ r ≡ accessStep (stateOf (now (words .entry))) (memoryAt (now (memory .entry)) base) access address size .answer ⌝ }
     ensures { λ _. ⌜ stateOf (now (words .exit)) ≡ accessStep (stateOf (now (words .entry))) (memoryAt (now (memory .entry)) base) access address size .state ⌝ }
 {

@@ -30,7 +30,7 @@ fn operate_pmp(pmp: Pmp, operation: Operation, number: u64, operand: u64, old: u
 
 // A CSR step on a protection register that is not illegal.
 fn step_protection(words: &mut [u64], operation: Operation, number: u64, operand: u64) -> Taken
-    requires { ⌜ length (now words) ≡ 42 ⌝ }
+    requires { ⌜ length (now words) ≡ 43 ⌝ }
     ensures { λ r. ⌜ r ≡ taken (stateOf (now (words .entry))) (protectionStep (stateOf (now (words .entry))) operation number operand) ⌝ }
     ensures { λ _. ⌜ stateOf (now (words .exit)) ≡ protectionStep (stateOf (now (words .entry))) operation number operand .state ⌝ }
 {
@@ -61,7 +61,7 @@ fn operate_satp(satp: u64, operation: Operation, operand: u64) -> u64
 
 // A CSR step on satp that is not illegal.
 fn step_satp(words: &mut [u64], operation: Operation, operand: u64) -> Taken
-    requires { ⌜ length (now words) ≡ 42 ⌝ }
+    requires { ⌜ length (now words) ≡ 43 ⌝ }
     ensures { λ r. ⌜ r ≡ taken (stateOf (now (words .entry))) (satpStep (stateOf (now (words .entry))) operation operand) ⌝ }
     ensures { λ _. ⌜ stateOf (now (words .exit)) ≡ satpStep (stateOf (now (words .entry))) operation operand .state ⌝ }
 {
@@ -86,7 +86,7 @@ fn apart(answer: Answer) -> Taken
 
 // The registers are read anew for each use, so that no word moves that is not needed.
 pub(crate) fn step_csr(words: &mut [u64], operation: Operation, number: u64, operand: u64) -> Taken
-    requires { ⌜ length (now words) ≡ 42 ⌝ }
+    requires { ⌜ length (now words) ≡ 43 ⌝ }
     ensures { λ r. ⌜ r ≡ taken (stateOf (now (words .entry))) (csrStep (stateOf (now (words .entry))) operation number operand) ⌝ }
     ensures { λ _. ⌜ stateOf (now (words .exit)) ≡ csrStep (stateOf (now (words .entry))) operation number operand .state ⌝ }
 {

@@ -13,7 +13,7 @@ ghost use Rattle.engine.specs.Effects.{withRegisters, onRegisters, event
 
 // Writes the registers that a step leaves.
 pub(crate) fn leave(outcome: Outcome, words: &mut [u64]) -> Answer
-    requires { ⌜ length (now words) ≡ 42 ⌝ }
+    requires { ⌜ length (now words) ≡ 43 ⌝ }
     ensures { λ r. ⌜ r ≡ outcome .answer ⌝ }
     ensures { λ _. ⌜ stateOf (now (words .exit)) ≡ withRegisters (stateOf (now (words .entry))) (outcome .registers) ⌝ }
 {
@@ -25,7 +25,7 @@ pub(crate) fn leave(outcome: Outcome, words: &mut [u64]) -> Answer
 // MRET for the machine level, SRET for the supervisor level. Done and illegal are apart, so that what is compiled stores
 // mode, pc and mstatus alone for a return.
 fn step_return(words: &mut [u64], level: Level) -> Answer
-    requires { ⌜ length (now words) ≡ 42 ⌝ }
+    requires { ⌜ length (now words) ≡ 43 ⌝ }
     ensures { λ r. ⌜ r ≡ onRegisters (stateOf (now (words .entry))) (returnStep level (registersOf (now (words .entry)))) .answer ⌝ }
     ensures { λ _. ⌜ stateOf (now (words .exit)) ≡ onRegisters (stateOf (now (words .entry))) (returnStep level (registersOf (now (words .entry)))) .state ⌝ }
 {
@@ -44,7 +44,7 @@ fn step_return(words: &mut [u64], level: Level) -> Answer
 
 // Each arm reads the registers for itself, so that it moves only those that it needs.
 pub(crate) fn step_event(words: &mut [u64], event: Event) -> Answer
-    requires { ⌜ length (now words) ≡ 42 ⌝ }
+    requires { ⌜ length (now words) ≡ 43 ⌝ }
     ensures { λ r. ⌜ r ≡ eventEffect (stateOf (now (words .entry))) event .answer ⌝ }
     ensures { λ _. ⌜ stateOf (now (words .exit)) ≡ eventEffect (stateOf (now (words .entry))) event .state ⌝ }
 {

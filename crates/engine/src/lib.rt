@@ -1,4 +1,4 @@
-// The steps of a hart on its 42 words, changed in place. Whether a hart can hold the state is judged once, and carried from step to step.
+// The steps of a hart on its 43 words, changed in place. Whether a hart can hold the state is judged once, and carried from step to step.
 use steps::Answer;
 
 mod access;

@@ -84,7 +84,7 @@ fn take_named(
     a: u64,
     b: u64,
 ) -> Taken
-    requires { ⌜ length (now words) ≡ 42 ⌝ }
+    requires { ⌜ length (now words) ≡ 43 ⌝ }
     ensures { λ r. ⌜ r ≡ namedTaken held (stateOf (now (words .entry))) (memoryAt (now (memory .entry)) base) (decoded number a b) ⌝ }
     ensures { λ _. ⌜ stateOf (now (words .exit)) ≡ namedState held (stateOf (now (words .entry))) (memoryAt (now (memory .entry)) base) (decoded number a b) ⌝ }
 {
@@ -106,7 +106,7 @@ fn run_steps(
     steps: &[u64],
     answers: &mut [u64],
 ) -> bool
-    requires { ⌜ (length (now words) ≡ 42) × (nameSteps (now steps) ≡ true) ⌝ }
+    requires { ⌜ (length (now words) ≡ 43) × (nameSteps (now steps) ≡ true) ⌝ }
     ensures { λ r. ⌜ r ≡ anyRemaps (stateOf (now (words .entry))) (lent (memoryAt (now (memory .entry)) base) (stepsOf (now (steps .entry)))) ⌝ }
     ensures { λ _. ⌜ stateOf (now (words .exit)) ≡ afterAll (stateOf (now (words .entry))) (lent (memoryAt (now (memory .entry)) base) (stepsOf (now (steps .entry)))) ⌝ }
     ensures { λ _. ⌜ now (answers .exit) ≡ sets (now (answers .entry)) 0 (answersOf (stateOf (now (words .entry))) (lent (memoryAt (now (memory .entry)) base) (stepsOf (now (steps .entry))))) ⌝ }
@@ -136,14 +136,14 @@ fn run_steps(
 }
 
 // Runs the steps that the numbers name, three for each, on the words of a hart, and writes their answers, four words each, from the front of a slice, as
-// far as it goes. Gives whether the map has to be compiled anew. Where the words are not 42, or three numbers name no step, nothing is done.
+// far as it goes. Gives whether the map has to be compiled anew. Where the words are not 43, or three numbers name no step, nothing is done.
 pub fn run(words: &mut [u64], memory: &[u64], base: u64, steps: &[u64], answers: &mut [u64]) -> bool
     ensures { λ r. ⌜ r ≡ ran (now (words .entry)) (memoryAt (now (memory .entry)) base) (now (steps .entry)) (now (answers .entry)) .remap ⌝ }
     ensures { λ _. ⌜ now (words .exit) ≡ ran (now (words .entry)) (memoryAt (now (memory .entry)) base) (now (steps .entry)) (now (answers .entry)) .words ⌝ }
     ensures { λ _. ⌜ now (answers .exit) ≡ ran (now (words .entry)) (memoryAt (now (memory .entry)) base) (now (steps .entry)) (now (answers .entry)) .answers ⌝ }
     ensures { λ _. ⌜ stateOf (now (words .exit)) ≡ ran (now (words .entry)) (memoryAt (now (memory .entry)) base) (now (steps .entry)) (now (answers .entry)) .state ⌝ }
 {
-    if !((words.len() == 42) & steps::name_steps(steps)) {
+    if !((words.len() == 43) & steps::name_steps(steps)) {
         return false;
     }
     run_steps(words, memory, base, steps, answers)

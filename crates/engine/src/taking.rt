@@ -3,6 +3,7 @@ use crate::Taken;
 use crate::access::step_access;
 use crate::csrs::step_csr;
 use crate::events::step_event;
+use state::places;
 use steps::Answer;
 use steps::Step;
 ghost use mathlib.Core.Path.{_≡_};
@@ -26,13 +27,14 @@ fn is_reset(step: Step) -> bool
 
 // What a step does where refusal 3 does not apply. No map is read.
 fn take_effect(words: &mut [u64], memory: &[u64], base: u64, step: Step) -> Taken
-    requires { ⌜ length (now words) ≡ 42 ⌝ }
+    requires { ⌜ length (now words) ≡ 43 ⌝ }
     ensures { λ r. ⌜ r ≡ effectTaken (stateOf (now (words .entry))) (memoryAt (now (memory .entry)) base) step ⌝ }
     ensures { λ _. ⌜ stateOf (now (words .exit)) ≡ effect (stateOf (now (words .entry))) (memoryAt (now (memory .entry)) base) step .state ⌝ }
 {
     match step {
         Step::Reset => {
-            state::store(state::reset(), words);
+            let grain = words[places::GRAIN];
+            state::store(state::reset(grain), words);
             Taken {
                 answer: Answer::Done,
                 held: true,
@@ -55,7 +57,7 @@ fn take_effect(words: &mut [u64], memory: &[u64], base: u64, step: Step) -> Take
 
 // A step, where it is known whether a hart can hold the state.
 pub(crate) fn take(words: &mut [u64], memory: &[u64], base: u64, held: bool, step: Step) -> Taken
-    requires { ⌜ length (now words) ≡ 42 ⌝ }
+    requires { ⌜ length (now words) ≡ 43 ⌝ }
     ensures { λ r. ⌜ r ≡ stepTaken held (stateOf (now (words .entry))) (memoryAt (now (memory .entry)) base) step ⌝ }
     ensures { λ _. ⌜ stateOf (now (words .exit)) ≡ ruledBy held (stateOf (now (words .entry))) (memoryAt (now (memory .entry)) base) step .state ⌝ }
 {
@@ -71,7 +73,7 @@ pub(crate) fn take(words: &mut [u64], memory: &[u64], base: u64, held: bool, ste
 
 // A step on the words of a hart, which their state determines. Refusal 3 goes by `held`: whoever calls says whether a hart can hold that state, and where that is
 // true the step says it truly of the state that it leaves.
-pub fn step(words: &mut [u64; 42], memory: &[u64], base: u64, held: bool, step: Step) -> Taken
+pub fn step(words: &mut [u64; 43], memory: &[u64], base: u64, held: bool, step: Step) -> Taken
     ensures { λ r. ⌜ r ≡ stepTaken held (stateOf (now (words .entry))) (memoryAt (now (memory .entry)) base) step ⌝ }
     ensures { λ _. ⌜ stateOf (now (words .exit)) ≡ ruledBy held (stateOf (now (words .entry))) (memoryAt (now (memory .entry)) base) step .state ⌝ }
 {

@@ -14,6 +14,7 @@ use Rattle.protection.proofs.SameLaws.{same-pmp}
 use Rattle.state.specs.declared.State.{State}
 use Rattle.map.specs.declared.Map.{Map}
 use Rattle.engine.specs.Effects.{isReset}
+use Rattle.engine.proofs.EffectLaws.{rule-grain}
 use Rattle.engine.specs.Runs.{Lent, stateAfter, afterAll, answerAfter, answersOf, remapsAt, anyRemaps}
 use Rattle.hart.specs.declared.Hart.{Hart}
 use Rattle.hart.specs.declared.Mapped.{Mapped}
@@ -26,7 +27,7 @@ use Rattle.hart.proofs.StepLaws.{step-parts}
 unremapped : (s : State) (l : Lent) → remapsAt s l ≡ false → s .pmp ≡ stateAfter s l .pmp
 unremapped s l e =
     let n = neither (isReset (l .step)) (not (samePmp (s .pmp) (stateAfter s l .pmp))) e in
-    same-pmp (s .pmp) (stateAfter s l .pmp) (not-false (samePmp (s .pmp) (stateAfter s l .pmp)) (n .1))
+    same-pmp (s .pmp) (stateAfter s l .pmp) (sym (rule-grain s (l .memory) (l .step) (n .0))) (not-false (samePmp (s .pmp) (stateAfter s l .pmp)) (n .1))
 
 pub pmp-stays : (s : State) (steps : List Lent) → anyRemaps s steps ≡ false → s .pmp ≡ afterAll s steps .pmp
 pmp-stays s steps e = no-step-keeps stateAfter remapsAt (λ (t : State). t .pmp) unremapped s steps e

@@ -1,4 +1,4 @@
--- 01, "Saved text", refusals 3 to 6, and 12 of 02, [8]: saving a hart, and reading a text back.
+-- 01, "Saved text", refusals 3 to 6, and 12 of 02, [8] and [9]: saving a hart, and reading a text back.
 use Prim.Native.Nat.{ℕ}
 use mathlib.Core.Bool.{Bool, cond, _&&_}
 use mathlib.Core.List.{List}
@@ -23,7 +23,7 @@ textFor h = textOf (textWords (h .state))
 abbrev pub textHolds : State → Bool
 textHolds s = canHold s && hasText s
 
--- refusal 3, then 6: the buffer for saving is shorter than 1,027 bytes; then 12: satp, SUM or a bit of medeleg has no place in the text
+-- refusal 3, then 6: the buffer for saving is shorter than 1,027 bytes; then 12: satp, the grain, SUM or a bit of medeleg has no place in the text
 unfoldable pub savedAnswer : Hart → List ℕ → Answer
 savedAnswer h buffer =
     cond (canHold (h .state)) (cond (holdsText buffer) (cond (hasText (h .state)) Done (Refused 12)) (Refused 6)) (Refused 3)

@@ -1,4 +1,4 @@
--- 01, "Steps", and 02, [8]: a step by a hart takes the state, its map and the memory lent to it, and hands state and map back.
+-- 01, "Steps", and 02, [8] and [9]: a step by a hart takes the state, its map and the memory lent to it, and hands state and map back.
 use Prim.Native.Nat.{ℕ}
 use mathlib.Core.Bool.{cond}
 use mathlib.Core.List.{List}
@@ -21,7 +21,7 @@ use Rattle.hart.specs.declared.Mapped.{Mapped}
 
 -- the map for protection registers
 abbrev pub mapFor : Pmp → Map
-mapFor p = compiled (p .cfgs) (p .addrs)
+mapFor p = compiled (p .grain) (p .cfgs) (p .addrs)
 
 abbrev pub hartWith : State → Hart
 hartWith s = record { state = s }
@@ -37,16 +37,16 @@ remapped before map after = cond (samePmp before after) map (mapFor after)
 abbrev pub withMap : Hart → Map → Effect → Stepped
 withMap h map e = handedBack (hartWith (e .state)) (remapped (h .state .pmp) map (e .state .pmp)) (e .answer)
 
--- the reset state and the reset map, which step 0 hands back
-abbrev pub resetMapped : Mapped
-resetMapped = record { hart = hartWith resetState; map = mapFor resetPmp }
+-- the reset state and the reset map of a hart that is made with grain g; step 0 hands back those of the grain that the hart has
+abbrev pub resetMapped : ℕ → Mapped
+resetMapped g = record { hart = hartWith (resetState g); map = mapFor (resetPmp g) }
 
-abbrev pub resetDone : Stepped
-resetDone = handedBack (resetMapped .hart) (resetMapped .map) Done
+abbrev pub resetDone : ℕ → Stepped
+resetDone g = handedBack (resetMapped g .hart) (resetMapped g .map) Done
 
 -- a step of any state, held or not
 unfoldable pub stepped : Hart → Map → Memory → Step → Stepped
-stepped h map m step = cond (isReset step) resetDone (withMap h map (stepRule (h .state) m step))
+stepped h map m step = cond (isReset step) (resetDone (h .state .pmp .grain)) (withMap h map (stepRule (h .state) m step))
 
 -- the number and values of its answer
 abbrev pub stepNumbers : Hart → Map → Memory → Step → List ℕ

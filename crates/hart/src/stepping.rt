@@ -17,7 +17,7 @@ pub fn map_for(pmp: Pmp) -> Map
 {
     let cfgs = pmp.cfgs;
     let addrs = pmp.addrs;
-    map::compile(cfgs, addrs)
+    map::compile(pmp.grain, cfgs, addrs)
 }
 
 impl Hart {
@@ -29,11 +29,11 @@ impl Hart {
         state::can_hold(state)
     }
 
-    // The reset state with its map.
-    pub fn reset() -> Mapped
-        ensures { λ r. ⌜ r ≡ resetMapped ⌝ }
+    // Makes a hart with a grain: the reset state with its map. A grain above 10 counts as 0.
+    pub fn reset(grain: u64) -> Mapped
+        ensures { λ r. ⌜ r ≡ resetMapped grain ⌝ }
     {
-        let state = state::reset();
+        let state = state::reset(grain);
         let pmp = state.pmp;
         let map = map_for(pmp);
         let hart = Hart { state };

@@ -79,12 +79,12 @@ module _ (spans : ℕ → Span) where
   one-more [] l = absurd (omega (arith, l))
   one-more (r ∷ rs) l = rw (length-map rs (λ (r : Range). r .first), add-one (length rs))
 
-pub boundaries : (cfgs addrs : List ℕ) → Boundaries (entrySpan cfgs addrs) (compiled cfgs addrs)
+pub boundaries : (g : ℕ) (cfgs addrs : List ℕ) → Boundaries (entrySpan g cfgs addrs) (compiled g cfgs addrs)
 unfolding compiled
-boundaries cfgs addrs =
-    let spans = entrySpan cfgs addrs in
-    let below = entry-below cfgs addrs in
-    let e = compiled-ranges cfgs addrs in
+boundaries g cfgs addrs =
+    let spans = entrySpan g cfgs addrs in
+    let below = entry-below g cfgs addrs in
+    let e = compiled-ranges g cfgs addrs in
     let n = one-more spans (rangesOf spans) (lawful-ranges spans below) in
     record {
       laid = rw e (is-map spans below);

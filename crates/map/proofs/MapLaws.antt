@@ -37,22 +37,22 @@ module _ (spans : ℕ → Span) (bounded : (k : ℕ) → k < 16 → spans k .hig
   pub is-map : IsMap spans (rangesOf spans)
   is-map = lawful-map spans (rangesOf spans) lawful-ranges
 
-module _ (cfgs addrs : List ℕ) where
+module _ (g : ℕ) (cfgs addrs : List ℕ) where
   -- no entry matches a byte past the end of memory
-  pub entry-below : (k : ℕ) → k < 16 → entrySpan cfgs addrs k .high ≤ top
+  pub entry-below : (k : ℕ) → k < 16 → entrySpan g cfgs addrs k .high ≤ top
   entry-below k h = span-bounds _ _ _ .1
 
   -- a compiled map is read as the ranges of the registers
-  pub read-back : rangesIn (compiled cfgs addrs) ≡ rangesOf (entrySpan cfgs addrs)
+  pub read-back : rangesIn (compiled g cfgs addrs) ≡ rangesOf (entrySpan g cfgs addrs)
   unfolding compiled
-  read-back = read-back-list (rangesOf (entrySpan cfgs addrs)) (count-bound (entrySpan cfgs addrs) entry-below)
+  read-back = read-back-list (rangesOf (entrySpan g cfgs addrs)) (count-bound (entrySpan g cfgs addrs) entry-below)
 
   -- up to its count, of at most 33, the compiled map is the ranges of the registers
-  pub compiled-ranges : take (compiled cfgs addrs .count) (compiled cfgs addrs .ranges) ≡ rangesOf (entrySpan cfgs addrs)
+  pub compiled-ranges : take (compiled g cfgs addrs .count) (compiled g cfgs addrs .ranges) ≡ rangesOf (entrySpan g cfgs addrs)
   unfolding compiled
   compiled-ranges =
-      take-append-seam (rangesOf (entrySpan cfgs addrs)) (replicate (33 - length (rangesOf (entrySpan cfgs addrs))) padding)
+      take-append-seam (rangesOf (entrySpan g cfgs addrs)) (replicate (33 - length (rangesOf (entrySpan g cfgs addrs))) padding)
 
   -- so it is the map of the registers as it is read
-  pub compiled-is-map : IsMap (entrySpan cfgs addrs) (rangesIn (compiled cfgs addrs))
-  compiled-is-map = rw read-back (is-map (entrySpan cfgs addrs) entry-below)
+  pub compiled-is-map : IsMap (entrySpan g cfgs addrs) (rangesIn (compiled g cfgs addrs))
+  compiled-is-map = rw read-back (is-map (entrySpan g cfgs addrs) entry-below)

@@ -82,16 +82,16 @@ module _ (cfgs : List ℕ) (mode : Mode) (access : Access) (address size : ℕ) 
       ∙ ranges-known (ownerOf spans) (λ b l k. omega (arith, owner-bound spans b))
 
   -- the query on the compiled map is the byte rule
-  pub query-rule : (addrs : List ℕ) → isSize size ≡ true
-      → queried cfgs (compiled cfgs addrs) mode access address size ≡ byteRule (entrySpan cfgs addrs) cfgs mode access address size
-  query-rule addrs e = go (less top (address + size))
+  pub query-rule : (g : ℕ) (addrs : List ℕ) → isSize size ≡ true
+      → queried cfgs (compiled g cfgs addrs) mode access address size ≡ byteRule (entrySpan g cfgs addrs) cfgs mode access address size
+  query-rule g addrs e = go (less top (address + size))
     where
       go : (top < address + size) ⊎ (address + size ≤ top)
-          → queried cfgs (compiled cfgs addrs) mode access address size ≡ byteRule (entrySpan cfgs addrs) cfgs mode access address size
-      go (inl x) = beyond-query (compiled cfgs addrs) e x ∙ sym (beyond-faults (entrySpan cfgs addrs) cfgs mode access address size (size-bounds size e .0) x)
+          → queried cfgs (compiled g cfgs addrs) mode access address size ≡ byteRule (entrySpan g cfgs addrs) cfgs mode access address size
+      go (inl x) = beyond-query (compiled g cfgs addrs) e x ∙ sym (beyond-faults (entrySpan g cfgs addrs) cfgs mode access address size (size-bounds size e .0) x)
       go (inr x) =
-          lawful-query (entrySpan cfgs addrs) (compiled cfgs addrs) (compiled-is-map cfgs addrs) e x
-          ∙ sym (rule-owners (entrySpan cfgs addrs) address size cfgs mode access x)
+          lawful-query (entrySpan g cfgs addrs) (compiled g cfgs addrs) (compiled-is-map g cfgs addrs) e x
+          ∙ sym (rule-owners (entrySpan g cfgs addrs) address size cfgs mode access x)
 
 -- ---- on a lawful map the range of the first byte tells a grant from a fault
 

@@ -17,6 +17,6 @@ padding = range 0 0 none
 abbrev pub mapOf : List Range → Map
 mapOf rs = record { count = length rs; ranges = rs ++ replicate (33 - length rs) padding }
 
--- the map of the configuration bytes and address registers
-unfoldable pub compiled : List ℕ → List ℕ → Map
-compiled cfgs addrs = mapOf (rangesOf (entrySpan cfgs addrs))
+-- the map of the grain, the configuration bytes and the address registers
+unfoldable pub compiled : ℕ → List ℕ → List ℕ → Map
+compiled g cfgs addrs = mapOf (rangesOf (entrySpan g cfgs addrs))

@@ -107,9 +107,9 @@ fn sweep(lows: &[u64; 16], highs: &[u64; 16]) -> Map
 }
 
 // The map of the sixteen entries. Each range but the first begins at the first byte that an entry matches or at the byte after its last.
-pub fn compile(cfgs: [u8; 16], addrs: [u64; 16]) -> Map
-    ensures { λ r. ⌜ r ≡ compiled cfgs addrs ⌝ }
-    ensures { λ r. ⌜ Boundaries (entrySpan cfgs addrs) r ⌝ }
+pub fn compile(grain: u64, cfgs: [u8; 16], addrs: [u64; 16]) -> Map
+    ensures { λ r. ⌜ r ≡ compiled grain cfgs addrs ⌝ }
+    ensures { λ r. ⌜ Boundaries (entrySpan grain cfgs addrs) r ⌝ }
 {
     let mut lows = [0u64; 16];
     let mut highs = [0u64; 16];
@@ -117,7 +117,7 @@ pub fn compile(cfgs: [u8; 16], addrs: [u64; 16]) -> Map
     let mut entry: usize = 0;
     while entry < 16 {
         let addr = addrs[entry];
-        let span = normalize(pmp::entry_span(cfgs[entry], addr, before));
+        let span = normalize(pmp::entry_span(grain, cfgs[entry], addr, before));
         lows[entry] = span.low;
         highs[entry] = span.high;
         before = addr;

@@ -9,7 +9,7 @@ use Rattle.pmp.specs.declared.Access.{Access}
 use Rattle.pmp.specs.declared.Decision.{Decision}
 use Rattle.pmp.specs.declared.Decision.the-variants.{Granted as RuleGrants, Fault as RuleFaults, Refused as RuleRefuses}
 use Rattle.pmp.specs.Number.{faultCause}
-use Rattle.pmp.specs.Entry.{entrySpan}
+use Rattle.protection.specs.Spans.{spansOf}
 use Rattle.pmp.specs.Rule.{none, byteRule}
 use Rattle.pmp.proofs.Answered.{GrantOrFault, grants as rule-grants, faults as rule-faults, rule-answers}
 use Rattle.protection.specs.declared.Pmp.{Pmp}
@@ -58,11 +58,11 @@ module _ (p : Pmp) (m : Memory) (c : Context) (address size : ℕ) where
 
   module _ (levels place : ℕ) (k : Check) (r d : Decision) (whole : Reached) (w : stage levels place ≡ whole)
       (asked : k ≡ nextCheck c address size levels place)
-      (answer : r ≡ byteRule (entrySpan (p .cfgs) (p .addrs)) (p .cfgs) (k .mode) (k .access) (k .place) (k .size)) (e : r ≡ d) where
-    decides : byteRule (entrySpan (p .cfgs) (p .addrs)) (p .cfgs) (nextCheck c address size levels place .mode)
+      (answer : r ≡ byteRule (spansOf p) (p .cfgs) (k .mode) (k .access) (k .place) (k .size)) (e : r ≡ d) where
+    decides : byteRule (spansOf p) (p .cfgs) (nextCheck c address size levels place .mode)
         (nextCheck c address size levels place .access) (nextCheck c address size levels place .place) (nextCheck c address size levels place .size) ≡ d
     decides =
-        ap (λ (x : Check). byteRule (entrySpan (p .cfgs) (p .addrs)) (p .cfgs) (x .mode) (x .access) (x .place) (x .size)) (sym asked)
+        ap (λ (x : Check). byteRule (spansOf p) (p .cfgs) (x .mode) (x .access) (x .place) (x .size)) (sym asked)
         ∙ sym answer
         ∙ e
 
@@ -71,7 +71,7 @@ module _ (p : Pmp) (m : Memory) (c : Context) (address size : ℕ) where
     check-ends z = go levels z w decides
       where
         go : (l : ℕ) → l ≡ 0 → stage l place ≡ whole
-            → byteRule (entrySpan (p .cfgs) (p .addrs)) (p .cfgs) (nextCheck c address size l place .mode)
+            → byteRule (spansOf p) (p .cfgs) (nextCheck c address size l place .mode)
             (nextCheck c address size l place .access) (nextCheck c address size l place .place) (nextCheck c address size l place .size) ≡ d
             → byRule address d ≡ whole
         go zero z v h = ap (byRule address) (sym h) ∙ v
@@ -84,7 +84,7 @@ module _ (p : Pmp) (m : Memory) (c : Context) (address size : ℕ) where
     check-reads below x s q = go levels s w decides (ap (λ (y : Check). y .place) asked)
       where
         go : (l : ℕ) → l ≡ suc below → stage l place ≡ whole
-            → byteRule (entrySpan (p .cfgs) (p .addrs)) (p .cfgs) (nextCheck c address size l place .mode)
+            → byteRule (spansOf p) (p .cfgs) (nextCheck c address size l place .mode)
             (nextCheck c address size l place .access) (nextCheck c address size l place .place) (nextCheck c address size l place .size) ≡ d
             → k .place ≡ nextCheck c address size l place .place
             → arrived p m c address size (onward (walkFrom p m c address below) (wordSays c address below x)) ≡ whole
@@ -96,7 +96,7 @@ module _ (p : Pmp) (m : Memory) (c : Context) (address size : ℕ) where
 
     answers : levels ≡ 0 → GrantOrFault (c .access) d
     answers z =
-        rw (← (kind z), ← e, answer) (rule-answers (entrySpan (p .cfgs) (p .addrs)) (p .cfgs) (k .mode) (k .access) (k .place) (k .size))
+        rw (← (kind z), ← e, answer) (rule-answers (spansOf p) (p .cfgs) (k .mode) (k .access) (k .place) (k .size))
 
     -- a check that is not granted, whichever it is, is a fault of the access's kind
     pub check-denies : (entry : ℕ) → ((word : Word) → readBy d word ≡ Denied entry)

@@ -15,7 +15,7 @@ use Rattle.pmp.specs.declared.Access.the-variants.{Fetch, Load, Store}
 use Rattle.pmp.specs.declared.Decision.{Decision}
 use Rattle.pmp.specs.declared.Decision.the-variants.{Refused as RuleRefuses}
 use Rattle.pmp.specs.Number.{faultCause}
-use Rattle.pmp.specs.Entry.{entrySpan}
+use Rattle.protection.specs.Spans.{spansOf}
 use Rattle.pmp.specs.Rule.{none, byteRule, isSize, checked}
 use Rattle.pmp.proofs.Answered.{GrantOrFault, grants as rule-grants, faults as rule-faults, rule-answers}
 use Rattle.protection.specs.declared.Pmp.{Pmp}
@@ -79,7 +79,7 @@ module _ (p : Pmp) (m : Memory) (c : Context) (address : ℕ) where
   found-by-entry level table =
       let place = entryAddress table level address in
       says-by-entry c address level (tableRead p m place)
-      (read-by-entry Load _ (wordAt m place) (rule-answers (entrySpan (p .cfgs) (p .addrs)) (p .cfgs) Supervisor Load place 8) (word-by-entry m place))
+      (read-by-entry Load _ (wordAt m place) (rule-answers (spansOf p) (p .cfgs) Supervisor Load place 8) (word-by-entry m place))
 
   walk-by-entry : (level table : ℕ) → EndsByEntry (walkFrom p m c address level table)
   unfolding walkFrom
@@ -144,7 +144,7 @@ first-room c address size n = go (translated c) n
 module _ (p : Pmp) (m : Memory) (c : Context) where
   arrived-answered : (address size : ℕ) (w : Walked) → EndsByEntry w → Answered (c .access) (λ t. t ≡ address) (arrived p m c address size w)
   arrived-answered address size (At place) e =
-      rule-answered (c .access) address _ (rule-answers (entrySpan (p .cfgs) (p .addrs)) (p .cfgs) (c .mode) (c .access) place size)
+      rule-answered (c .access) address _ (rule-answers (spansOf p) (p .cfgs) (c .mode) (c .access) place size)
   arrived-answered address size PageFault e = page-faults address refl
   arrived-answered address size (AccessFault entry) e = faults address entry refl e
 
@@ -184,7 +184,7 @@ module _ (p : Pmp) (m : Memory) (c : Context) where
 
   -- untranslated it is the decision on the address itself, refusal 1 too
   pub reached-physical : (address size : ℕ) → lawful m ≡ true → translated c ≡ false
-      → reached p m c address size ≡ byRule address (checked (p .cfgs) (p .addrs) (c .mode) (c .access) address size)
+      → reached p m c address size ≡ byRule address (checked (p .grain) (p .cfgs) (p .addrs) (c .mode) (c .access) address size)
   unfolding reached partsReached partReached located checked
   reached-physical address size l n = rw (l, n, eq-eqb size size refl) (by-size (isSize size) (decided p m c address size))
     where

@@ -9,7 +9,7 @@ use Rattle.pmp.specs.declared.Access.the-variants.{Fetch, Load, Store}
 use Rattle.pmp.specs.declared.Decision.{Decision}
 use Rattle.pmp.specs.declared.Decision.the-variants.{Granted as RuleGrants, Fault as RuleFaults, Refused as RuleRefuses}
 use Rattle.pmp.specs.Number.{faultCause}
-use Rattle.pmp.specs.Entry.{entrySpan}
+use Rattle.protection.specs.Spans.{spansOf}
 use Rattle.pmp.specs.Rule.{none, byteRule, isSize}
 use Rattle.protection.specs.declared.Pmp.{Pmp}
 use Rattle.paging.specs.declared.Context.{Context}
@@ -63,7 +63,7 @@ module _ (p : Pmp) (m : Memory) (c : Context) where
 
   -- what the byte rule decides of an access to physical memory, in the effective mode
   abbrev pub decided : ℕ → ℕ → Decision
-  decided place size = byteRule (entrySpan (p .cfgs) (p .addrs)) (p .cfgs) (c .mode) (c .access) place size
+  decided place size = byteRule (spansOf p) (p .cfgs) (c .mode) (c .access) place size
 
   -- at a physical address the byte rule decides; tval is the virtual address
   abbrev pub arrived : ℕ → ℕ → Walked → Reached

@@ -8,7 +8,7 @@ use Rattle.pmp.specs.declared.Access.{Access}
 use Rattle.pmp.specs.declared.Access.the-variants.{Load}
 use Rattle.pmp.specs.declared.Decision.{Decision}
 use Rattle.pmp.specs.declared.Decision.the-variants.{Granted, Fault, Refused}
-use Rattle.pmp.specs.Entry.{entrySpan}
+use Rattle.protection.specs.Spans.{spansOf}
 use Rattle.pmp.specs.Rule.{none, byteRule}
 use Rattle.protection.specs.declared.Pmp.{Pmp}
 use Rattle.paging.specs.declared.Context.{Context}
@@ -42,7 +42,7 @@ readBy (Refused number) word = Denied none
 
 -- a page-table read: the byte rule with mode S first, then the slice
 unfoldable pub tableRead : Pmp → Memory → ℕ → Word
-tableRead p m address = readBy (byteRule (entrySpan (p .cfgs) (p .addrs)) (p .cfgs) Supervisor Load address 8) (wordAt m address)
+tableRead p m address = readBy (byteRule (spansOf p) (p .cfgs) Supervisor Load address 8) (wordAt m address)
 
 abbrev pub wordSays : Context → ℕ → ℕ → Word → Found
 wordSays c address level (Read pte) = entrySays c address level pte

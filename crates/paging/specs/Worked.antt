@@ -52,6 +52,7 @@ mxrBit = 0x80000
 abbrev pub pmp : Pmp
 pmp =
     record {
+      grain = 0;
       cfgs = 0x10 ∷ 0x18 ∷ 0x18 ∷ 0x1F ∷ replicate 12 0;
       addrs = 0x10000400 ∷ 0x240001FF ∷ 0x48D1600 ∷ (2 ^ 54 - 1) ∷ replicate 12 0;
     }

@@ -52,6 +52,7 @@ fn reach_part(
     ensures { λ r. ⌜ r ≡ partReached pmp (memoryAt (now (memory .entry)) base) context address size ⌝ }
 {
     let access = context.access;
+    let grain = pmp.grain;
     let cfgs = pmp.cfgs;
     let addrs = pmp.addrs;
     let mut levels: u64 = 0;
@@ -68,6 +69,7 @@ fn reach_part(
         let check_mode = check.mode;
         let check_access = check.access;
         match pmp::byte_rule(
+            grain,
             cfgs,
             addrs,
             check_mode,

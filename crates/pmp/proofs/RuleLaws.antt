@@ -75,12 +75,12 @@ size-bounds n e =
 
 -- ---- the decision on an access as a step asks for it
 
-module _ (cfgs addrs : List ℕ) (mode : Mode) (access : Access) (address size : ℕ) where
-  pub checked-refused : isSize size ≡ false → checked cfgs addrs mode access address size ≡ Refused 1
+module _ (g : ℕ) (cfgs addrs : List ℕ) (mode : Mode) (access : Access) (address size : ℕ) where
+  pub checked-refused : isSize size ≡ false → checked g cfgs addrs mode access address size ≡ Refused 1
   unfolding checked
   checked-refused e = rw e
 
   pub checked-rule : isSize size ≡ true
-      → checked cfgs addrs mode access address size ≡ byteRule (entrySpan cfgs addrs) cfgs mode access address size
+      → checked g cfgs addrs mode access address size ≡ byteRule (entrySpan g cfgs addrs) cfgs mode access address size
   unfolding checked
   checked-rule e = rw e

@@ -1,4 +1,4 @@
--- 01, "Protection, byte by byte": the bytes that an entry matches, and its lock.
+-- 01, "Protection, byte by byte": the bytes that an entry matches, and its lock; 02, [9]: by the grain G, 2^(G+2) bytes.
 use Prim.Native.Nat.{ℕ, zero, suc, _+_, _-_, _*_, _/_, _%_, _^_, min}
 use mathlib.Core.Bool.{Bool, true, false, cond, _&&_}
 use mathlib.Core.List.{List}
@@ -42,14 +42,42 @@ fieldA cfg = cfg / 8 % 4
 abbrev pub locked : ℕ → Bool
 locked cfg = eqb (cfg / 128) 1
 
+-- 02, [9]: "G, 0 to 10"
+abbrev pub grainHoldable : ℕ → Bool
+grainHoldable g = ltb g 11
+
+-- "making a hart and step 0 turn a G above 10 into 0"; reading and matching take one as 0 too, in a state that no other step accepts
+abbrev pub legalGrain : ℕ → ℕ
+legalGrain g = cond (grainHoldable g) g 0
+
+-- a word with its n lowest bits zeros
+abbrev pub lowZeros : ℕ → ℕ → ℕ
+lowZeros n word = word / 2 ^ n * 2 ^ n
+
+-- a word with its n lowest bits ones
+abbrev pub lowOnes : ℕ → ℕ → ℕ
+lowOnes n word = lowZeros n word + (2 ^ n - 1)
+
+-- 002, what pmpaddr reads: the low G bits zeros where A is OFF or TOR; else, G being 2 or more, the low G-1 bits ones
+unfoldable pub addressRead : ℕ → ℕ → ℕ → ℕ
+addressRead g a addr = cond (ltb a 2) (lowZeros (legalGrain g) addr) (lowOnes (legalGrain g - 1) addr)
+
+-- an entry matches by what is read. NA4 is 01's as it was: with G of 0 what is read is what is stored, and with any other no hart can hold NA4
+abbrev pub addressMatched : ℕ → ℕ → ℕ → ℕ
+addressMatched g a addr = cond (eqb a 2) addr (addressRead g a addr)
+
+-- TOR's lower bound is the register before without its low G bits, whatever A is there
+abbrev pub spanRead : ℕ → ℕ → ℕ → ℕ → Span
+spanRead g a addr before = spanOf a (addressMatched g a addr) (lowZeros (legalGrain g) before)
+
 -- pmpaddr(i-1), and 0 for entry 0
 abbrev pub addressBefore : List ℕ → ℕ → ℕ
 addressBefore addrs zero = 0
 addressBefore addrs (suc i) = getD addrs i 0
 
--- the bytes of entry i, for the configuration bytes and the address registers
-abbrev pub entrySpan : List ℕ → List ℕ → ℕ → Span
-entrySpan cfgs addrs i = spanOf (fieldA (getD cfgs i 0)) (getD addrs i 0) (addressBefore addrs i)
+-- the bytes of entry i, for the grain, the configuration bytes and the address registers
+abbrev pub entrySpan : ℕ → List ℕ → List ℕ → ℕ → Span
+entrySpan g cfgs addrs i = spanRead g (fieldA (getD cfgs i 0)) (getD addrs i 0) (addressBefore addrs i)
 
 abbrev pub contains : Span → ℕ → Bool
 contains s byte = leb (s .low) byte && ltb byte (s .high)

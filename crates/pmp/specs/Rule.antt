@@ -68,9 +68,9 @@ abbrev pub isSize : ℕ → Bool
 isSize size = eqb size 1 || (eqb size 2 || (eqb size 4 || eqb size 8))
 
 -- the decision on an access as a step asks for it: refusal 1, then the byte rule on the registers
-unfoldable pub checked : List ℕ → List ℕ → Mode → Access → ℕ → ℕ → Decision
-checked cfgs addrs mode access address size =
-    cond (isSize size) (byteRule (entrySpan cfgs addrs) cfgs mode access address size) (Refused 1)
+unfoldable pub checked : ℕ → List ℕ → List ℕ → Mode → Access → ℕ → ℕ → Decision
+checked g cfgs addrs mode access address size =
+    cond (isSize size) (byteRule (entrySpan g cfgs addrs) cfgs mode access address size) (Refused 1)
 
 -- ---- by the owners of the bytes
 

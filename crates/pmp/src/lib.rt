@@ -4,8 +4,11 @@ mod modes;
 mod rule;
 mod search;
 
+pub use entry::address_read;
 pub use entry::entry_span;
+pub use entry::grain_can_hold;
 pub use entry::is_locked;
+pub use entry::legal_grain;
 pub use modes::is_mode;
 pub use modes::mode_of;
 pub use rule::byte_rule;

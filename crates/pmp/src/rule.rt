@@ -126,6 +126,7 @@ pub fn is_size(size: u64) -> bool
 // The decision of the entries on an access of any number of bytes from `address` on, in the effective mode. An access past the end of memory faults by no
 // entry, and none decides on one of no bytes.
 pub fn byte_rule(
+    grain: u64,
     cfgs: [u8; 16],
     addrs: [u64; 16],
     mode: Mode,
@@ -133,7 +134,7 @@ pub fn byte_rule(
     address: u64,
     size: u64,
 ) -> Decision
-    ensures { λ r. ⌜ r ≡ byteRule (entrySpan cfgs addrs) cfgs mode access address size ⌝ }
+    ensures { λ r. ⌜ r ≡ byteRule (entrySpan grain cfgs addrs) cfgs mode access address size ⌝ }
 {
     if size == 0 {
         return none_decides(mode, access);
@@ -144,7 +145,7 @@ pub fn byte_rule(
     if TOP - size < address {
         return Decision::Fault(fault_cause(access), NONE);
     }
-    let found = lowest_match(cfgs, addrs, address, size);
+    let found = lowest_match(grain, cfgs, addrs, address, size);
     if 16 <= found.entry {
         return none_decides(mode, access);
     }
@@ -161,6 +162,7 @@ pub fn byte_rule(
 
 // The same on an access of a size that a step can ask for, and refusal 1 on any other.
 pub fn check(
+    grain: u64,
     cfgs: [u8; 16],
     addrs: [u64; 16],
     mode: Mode,
@@ -168,10 +170,10 @@ pub fn check(
     address: u64,
     size: u64,
 ) -> Decision
-    ensures { λ r. ⌜ r ≡ checked cfgs addrs mode access address size ⌝ }
+    ensures { λ r. ⌜ r ≡ checked grain cfgs addrs mode access address size ⌝ }
 {
     if is_size(size) {
-        byte_rule(cfgs, addrs, mode, access, address, size)
+        byte_rule(grain, cfgs, addrs, mode, access, address, size)
     } else {
         Decision::Refused(1)
     }

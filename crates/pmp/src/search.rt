@@ -3,13 +3,16 @@ use crate::Found;
 use crate::Span;
 use crate::entry::contains;
 use crate::entry::entry_span;
+use crate::entry::napot_span;
+use crate::entry::ones_read;
+use crate::entry::zeros_read;
 ghost use mathlib.Core.Path.{_≡_};
 ghost use mathlib.Core.Bool.{true, false, _&&_};
 ghost use lib.Dec.{ltb};
 ghost use Prim.Native.Nat.{_+_, _≤_, _<_};
 ghost use lib.ListN.{getD};
 ghost use Rattle.pmp.specs.Search.{everyByte};
-ghost use Rattle.pmp.specs.Entry.{top, spanOf, fieldA, entrySpan, contains};
+ghost use Rattle.pmp.specs.Entry.{top, spanRead, fieldA, entrySpan, contains};
 ghost use Rattle.pmp.specs.Rule.{lowestMatch};
 
 // The bytes of an entry, where some of those from its first to its last are the access's too.
@@ -28,10 +31,10 @@ fn apart() -> Overlap
 }
 
 // TOR and NA4 are compared by words, so that their bytes are formed only where they are needed.
-fn overlapping(cfg: u8, addr: u64, before: u64, address: u64, size: u64) -> Overlap
+fn overlapping(grain: u64, cfg: u8, addr: u64, before: u64, address: u64, size: u64) -> Overlap
     requires { ⌜ (0 < size) × (address + size ≤ top) ⌝ }
-    ensures { λ r. ⌜ r .some ≡ (ltb address (spanOf (fieldA cfg) addr before .high) && ltb (spanOf (fieldA cfg) addr before .low) (address + size)) ⌝ }
-    ensures { λ r. ⌜ (r .some ≡ true → r .span ≡ spanOf (fieldA cfg) addr before) ⌝ }
+    ensures { λ r. ⌜ r .some ≡ (ltb address (spanRead grain (fieldA cfg) addr before .high) && ltb (spanRead grain (fieldA cfg) addr before .low) (address + size)) ⌝ }
+    ensures { λ r. ⌜ (r .some ≡ true → r .span ≡ spanRead grain (fieldA cfg) addr before) ⌝ }
 {
     let first = address / 4;
     let end = (address + size + 3) / 4;
@@ -40,15 +43,15 @@ fn overlapping(cfg: u8, addr: u64, before: u64, address: u64, size: u64) -> Over
         if a == 0 {
             return apart();
         }
-        if addr <= first {
+        if zeros_read(grain, addr) <= first {
             return apart();
         }
-        if end <= before {
+        if end <= zeros_read(grain, before) {
             return apart();
         }
         return Overlap {
             some: true,
-            span: entry_span(cfg, addr, before),
+            span: entry_span(grain, cfg, addr, before),
         };
     }
     if a == 2 {
@@ -60,10 +63,10 @@ fn overlapping(cfg: u8, addr: u64, before: u64, address: u64, size: u64) -> Over
         }
         return Overlap {
             some: true,
-            span: entry_span(cfg, addr, before),
+            span: entry_span(grain, cfg, addr, before),
         };
     }
-    let span = entry_span(cfg, addr, before);
+    let span = napot_span(ones_read(grain, addr));
     Overlap {
         some: (address < span.high) & (span.low < address + size),
         span,
@@ -71,10 +74,16 @@ fn overlapping(cfg: u8, addr: u64, before: u64, address: u64, size: u64) -> Over
 }
 
 // The lowest entry that matches any byte of the access. It is told with its byte and its span, so that neither is looked up again.
-pub(crate) fn lowest_match(cfgs: [u8; 16], addrs: [u64; 16], address: u64, size: u64) -> Found
+pub(crate) fn lowest_match(
+    grain: u64,
+    cfgs: [u8; 16],
+    addrs: [u64; 16],
+    address: u64,
+    size: u64,
+) -> Found
     requires { ⌜ (0 < size) × (address + size ≤ top) ⌝ }
-    ensures { λ r. ⌜ r .entry ≡ lowestMatch (entrySpan cfgs addrs) address size ⌝ }
-    ensures { λ r. ⌜ (r .entry < 16 → (r .cfg ≡ getD cfgs (r .entry) 0) × (r .span ≡ entrySpan cfgs addrs (r .entry))) ⌝ }
+    ensures { λ r. ⌜ r .entry ≡ lowestMatch (entrySpan grain cfgs addrs) address size ⌝ }
+    ensures { λ r. ⌜ (r .entry < 16 → (r .cfg ≡ getD cfgs (r .entry) 0) × (r .span ≡ entrySpan grain cfgs addrs (r .entry))) ⌝ }
 {
     let mut entry = 0;
     let mut before = 0;
@@ -89,7 +98,7 @@ pub(crate) fn lowest_match(cfgs: [u8; 16], addrs: [u64; 16], address: u64, size:
         let addr = addrs[entry];
         let cfg = cfgs[entry];
         // Where no byte of the access can be the entry's, none is looked at.
-        let overlap = overlapping(cfg, addr, before, address, size);
+        let overlap = overlapping(grain, cfg, addr, before, address, size);
         if overlap.some {
             let span = overlap.span;
             let mut byte = 0;

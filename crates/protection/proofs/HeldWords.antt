@@ -1,22 +1,33 @@
 -- What a hart can hold, judged eight configuration bytes at a time, and by the bits of all addresses together. Assumes nothing.
 use Prim.Native.Nat.{ℕ, zero, suc, _+_, _*_, _/_, _%_, _^_, _<_}
 use mathlib.Core.Path.{_≡_, refl, sym, ap, ap₂, _∙_}
-use mathlib.Core.Bool.{Bool, true, false, not, _&&_, and-true}
+use mathlib.Core.Bool.{Bool, true, false, not, cond, _&&_}
 use native.Mathlib.Omega.{arith}
-use borrow.Author.Tests.{eq-eqb, ne-eqb, eqb-true, eqb-false, not-true, lt-ltb, ltb-true}
-use lib.Bits.{bitAnd, bitOr, and-step, and-mask, and-block, or-block, and-zero-r, or-lt, and-le-l, and-le-r, or-add-and}
+use borrow.Author.Tests.{eq-eqb, eqb-true, lt-ltb, ltb-true}
+use lib.Bits.{bitAnd, bitOr, and-block, or-block, and-zero-r, or-lt, and-le-l, and-le-r, or-add-and}
 use lib.Dec.{eqb, ltb}
 use lib.ListN.{replicate}
 use Rattle.bits.specs.Lists.{all}
 use Rattle.bits.proofs.Conjunction.{both, join}
+use Rattle.bits.proofs.BitSolve.{upto-sound}
 use Rattle.protection.specs.Configs.{packed, unpacked}
-use Rattle.protection.specs.Hold.{configHoldable}
+use Rattle.protection.specs.Hold.{configAllowed}
 
 -- tests that pass together are the same
 together : (a b : Bool) → (a ≡ true → b ≡ true) → (b ≡ true → a ≡ true) → a ≡ b
 together true b f g = sym (f refl)
 together false true f g = g refl
 together false false f g = refl
+
+-- whether two tests give the same
+abbrev agree : Bool → Bool → Bool
+agree true b = b
+agree false b = not b
+
+agree-eq : (a b : Bool) → agree a b ≡ true → a ≡ b
+agree-eq true b e = sym e
+agree-eq false true e = e
+agree-eq false false e = refl
 
 -- two numbers are the same where their lowest bytes and all above these are
 byte-more : (a b r s : ℕ) → r < 256 → s < 256 → eqb (a * 256 + r) (b * 256 + s) ≡ (eqb r s && eqb a b)
@@ -29,23 +40,19 @@ byte-more a b r s h k =
     let w = both (eqb r s) (eqb a b) e in
     eq-eqb (a * 256 + r) (b * 256 + s) (omega (arith, eqb-true r s (w .0), eqb-true a b (w .1))))
 
--- one byte: `writable` is its bit 1
-byte-held : (byte writable : ℕ) → writable ≡ byte / 2 % 2 → eqb (bitAnd byte (bitOr writable 0x60)) writable ≡ configHoldable byte
-byte-held b zero e = sym (rw (ne-eqb (bitAnd b 3) 2 (λ q. omega (arith, and-mask b 2))) (and-true (eqb (bitAnd b 0x60) 0)))
-byte-held b (suc zero) e =
-    let x = and-step b 0x61 in
-    let y = and-step b 0x60 in
-    let z = and-mask b 2 in
-    together (eqb (bitAnd b 0x61) 1) (configHoldable b)
-    (λ p.
-    let q = eqb-true (bitAnd b 0x61) 1 p in
-    rw (eq-eqb (bitAnd b 0x60) 0 (omega (arith, x, y, q)), ne-eqb (bitAnd b 3) 2 (λ n. omega (arith, x, z, q, n))))
-    (λ p.
-    let w = both (eqb (bitAnd b 0x60) 0) (not (eqb (bitAnd b 3) 2)) p in
-    let n = eqb-false (bitAnd b 3) 2 (not-true (eqb (bitAnd b 3) 2) (w .1)) in
-    let q = eqb-true (bitAnd b 0x60) 0 (w .0) in
-    eq-eqb (bitAnd b 0x61) 1 (omega (arith, x, y, z, q, n)))
-byte-held b (suc (suc t)) e = absurd (omega arith)
+-- In a byte bit 0 is set where bit 1 is, and, unless NA4 can be selected, bit 3 where bit 4 is: masks 1 and 9.
+
+abbrev agrees : Bool → ℕ → Bool
+agrees na4 b = agree (eqb (bitAnd b (bitOr (bitAnd (b / 2) (cond na4 1 9)) 0x60)) (bitAnd (b / 2) (cond na4 1 9))) (configAllowed na4 b)
+
+-- one byte, by trying all
+byte-held : (na4 : Bool) (byte : ℕ) → byte < 256
+    → eqb (bitAnd byte (bitOr (bitAnd (byte / 2) (cond na4 1 9)) 0x60)) (bitAnd (byte / 2) (cond na4 1 9)) ≡ configAllowed na4 byte
+byte-held na4 byte h = agree-eq _ _ (tried na4)
+  where
+    tried : (na4 : Bool) → agrees na4 byte ≡ true
+    tried true = upto-sound 256 (agrees true) refl byte h
+    tried false = upto-sound 256 (agrees false) refl byte h
 
 -- a mask acts on the lowest byte and on all above it
 mask-more : (w m c : ℕ) → c < 256 → bitAnd w (m * 256 + c) ≡ bitAnd (w / 256) m * 256 + bitAnd (w % 256) c
@@ -53,24 +60,44 @@ mask-more w m c h =
     let s : w ≡ w / 256 * 256 + w % 256 = omega arith in
     ap (λ (x : ℕ). bitAnd x (m * 256 + c)) s ∙ and-block 8 (w / 256) m (w % 256) c (omega arith) h
 
+-- bits below the highest of a byte are not moved into it from the next one
+half-byte : (w c : ℕ) → c < 128 → bitAnd (w / 2 % 256) c ≡ bitAnd (w % 256 / 2) c
+half-byte w c h =
+    let s : w / 2 % 256 ≡ w / 256 % 2 * 2 ^ 7 + w % 256 / 2 = omega arith in
+    let t : c ≡ 0 * 2 ^ 7 + c = omega arith in
+    let z = and-zero-r (w / 256 % 2) in
+    ap₂ bitAnd s t ∙ and-block 7 (w / 256 % 2) 0 (w % 256 / 2) c (omega arith) h ∙ omega (arith, z)
+
+pairs-small : (na4 : Bool) → cond na4 1 9 < 128
+pairs-small true = omega arith
+pairs-small false = omega arith
+
 -- n bytes of a word
-pub word-held : (n word : ℕ)
-    → eqb (bitAnd word (bitOr (bitAnd (word / 2) (packed (replicate n 1))) (packed (replicate n 0x60)))) (bitAnd (word / 2) (packed (replicate n 1)))
-    ≡ all configHoldable (unpacked n word)
+pub word-held : (na4 : Bool) (n word : ℕ)
+    → eqb (bitAnd word (bitOr (bitAnd (word / 2) (packed (replicate n (cond na4 1 9)))) (packed (replicate n 0x60))))
+    (bitAnd (word / 2) (packed (replicate n (cond na4 1 9))))
+    ≡ all (configAllowed na4) (unpacked n word)
 unfolding packed unpacked all
-word-held zero w = rw (and-zero-r (w / 2), and-zero-r w)
-word-held (suc n) w =
-    let ones = packed (replicate n 1) in
+word-held na4 zero w = rw (and-zero-r (w / 2), and-zero-r w)
+word-held na4 (suc n) w =
+    let c : ℕ = cond na4 1 9 in
+    let pairs = packed (replicate n c) in
     let reserved = packed (replicate n 0x60) in
-    let first = bitAnd (w / 2 % 256) 1 in
-    let rest = bitAnd (w / 256 / 2) ones in
+    let first = bitAnd (w % 256 / 2) c in
+    let rest = bitAnd (w / 256 / 2) pairs in
     let s : w / 2 / 256 ≡ w / 256 / 2 = omega arith in
-    let e = and-mask (w / 2 % 256) 1 in
-    let f : first < 256 = omega (arith, e) in
+    let k = pairs-small na4 in
+    let f : first < 256 = omega (arith, k, and-le-r (w % 256 / 2) c) in
     let g = or-lt 8 first 0x60 f (omega arith) in
-    rw (mask-more (w / 2) ones 1 (omega arith), s, or-block 8 rest reserved first 0x60 f (omega arith), mask-more w (bitOr rest reserved) (bitOr first 0x60) g)
+    rw (
+      mask-more (w / 2) pairs c (omega arith),
+      half-byte w c k,
+      s,
+      or-block 8 rest reserved first 0x60 f (omega arith),
+      mask-more w (bitOr rest reserved) (bitOr first 0x60) g,
+    )
     (byte-more (bitAnd (w / 256) (bitOr rest reserved)) rest (bitAnd (w % 256) (bitOr first 0x60)) first (omega (arith, and-le-r (w % 256) (bitOr first 0x60), g)) f
-    ∙ ap₂ _&&_ (byte-held (w % 256) first (omega (arith, e))) (word-held n (w / 256)))
+    ∙ ap₂ _&&_ (byte-held na4 (w % 256) (omega arith)) (word-held na4 n (w / 256)))
 
 -- the bits of two numbers together lie below a place where those of both do
 pub or-below : (place a b : ℕ) → ltb (bitOr a b) (2 ^ place) ≡ (ltb a (2 ^ place) && ltb b (2 ^ place))

@@ -1,5 +1,5 @@
--- Values of the protection registers that compare as the same are equal. Assumes nothing.
-use mathlib.Core.Path.{_≡_, ap₂}
+-- Values of the protection registers that compare as the same, with the same grain, are equal. Assumes nothing.
+use mathlib.Core.Path.{_≡_}
 use mathlib.Core.Bool.{true}
 use mathlib.Core.List.{List}
 use Prim.Native.Nat.{ℕ}
@@ -9,11 +9,11 @@ use Rattle.bits.proofs.SameLaws.{same-eq, same-refl}
 use Rattle.protection.specs.declared.Pmp.{Pmp}
 use Rattle.protection.specs.Same.{samePmp}
 
-pub same-pmp : (a b : Pmp) → samePmp a b ≡ true → a ≡ b
+pub same-pmp : (a b : Pmp) → a .grain ≡ b .grain → samePmp a b ≡ true → a ≡ b
 unfolding samePmp
-same-pmp a b p =
+same-pmp a b g p =
     let w = both (sameList (a .cfgs) (b .cfgs)) (sameList (a .addrs) (b .addrs)) p in
-    ap₂ (λ (c d : List ℕ). record { cfgs = c; addrs = d }) (same-eq (a .cfgs) (b .cfgs) (w .0)) (same-eq (a .addrs) (b .addrs) (w .1))
+    (λ j. record { grain = g j; cfgs = same-eq (a .cfgs) (b .cfgs) (w .0) j; addrs = same-eq (a .addrs) (b .addrs) (w .1) j })
 
 pub same-pmp-refl : (a : Pmp) → samePmp a a ≡ true
 unfolding samePmp

@@ -2,6 +2,7 @@
 pub mod Arrays
 pub mod Configs
 pub mod Hold
+pub mod Spans
 pub mod Read
 pub mod Write
 pub mod Same

@@ -1,27 +1,41 @@
-// What a hart can hold, and what reset gives. These tests run at every step and do not branch.
+// What a hart can hold, and what reset gives.
 use crate::Pmp;
 ghost use mathlib.Core.Path.{_≡_};
-ghost use mathlib.Core.Bool.{_&&_};
+ghost use mathlib.Core.Bool.{cond, _&&_};
+ghost use lib.Dec.{eqb};
+ghost use lib.ListN.{replicate};
 ghost use Rattle.bits.specs.Lists.{all};
 ghost use Rattle.bits.specs.Same.{sameList};
 ghost use Rattle.protection.specs.Arrays.{Arrays};
-ghost use Rattle.protection.specs.Configs.{unpacked, configsOf};
+ghost use Rattle.protection.specs.Configs.{packed, unpacked, configsOf};
 ghost use Rattle.protection.specs.Hold.{configHoldable, addressHoldable, resetPmp};
 ghost use Rattle.protection.specs.Same.{samePmp};
 
-// Eight configuration bytes at once: in each, bits 5 and 6 are zero, and R is set where W is.
-fn word_can_hold(word: u64) -> bool
-    ensures { λ r. ⌜ r ≡ all configHoldable (unpacked 8 word) ⌝ }
+// The bits of eight configuration bytes that must be 1 where the next higher bit is: R where W is 1; with G of 1 or more also A[0] where A[1] is 1, which leaves
+// out A=2.
+fn set_by_next(grain: u64) -> u64
+    ensures { λ r. ⌜ r ≡ packed (replicate 8 (cond (eqb grain 0) 1 9)) ⌝ }
 {
-    let writable = (word >> 1) & 0x0101010101010101;
-    word & (writable | 0x6060606060606060) == writable
+    if grain == 0 {
+        0x0101010101010101
+    } else {
+        0x0909090909090909
+    }
+}
+
+// Eight configuration bytes at once: in each, bits 5 and 6 are 0, and no bit is 0 that must be 1.
+fn word_can_hold(grain: u64, word: u64) -> bool
+    ensures { λ r. ⌜ r ≡ all (configHoldable grain) (unpacked 8 word) ⌝ }
+{
+    let asked = (word >> 1) & set_by_next(grain);
+    word & (asked | 0x6060606060606060) == asked
 }
 
 // Whether a hart can hold the configuration bytes in pmpcfg0 and pmpcfg2.
-pub fn configs_can_hold(low: u64, high: u64) -> bool
-    ensures { λ r. ⌜ r ≡ all configHoldable (configsOf low high) ⌝ }
+pub fn configs_can_hold(grain: u64, low: u64, high: u64) -> bool
+    ensures { λ r. ⌜ r ≡ all (configHoldable grain) (configsOf low high) ⌝ }
 {
-    word_can_hold(low) & word_can_hold(high)
+    word_can_hold(grain, low) & word_can_hold(grain, high)
 }
 
 // Whether a hart can hold these address registers: no bit from 54 up is set in any of them.
@@ -37,10 +51,12 @@ pub fn addresses_can_hold(addrs: &[u64]) -> bool
     any < 0x40000000000000
 }
 
-pub fn reset() -> Pmp
-    ensures { λ r. ⌜ r ≡ resetPmp ⌝ }
+// The registers of a hart that is made, or reset, with a grain.
+pub fn reset(grain: u64) -> Pmp
+    ensures { λ r. ⌜ r ≡ resetPmp grain ⌝ }
 {
     Pmp {
+        grain: pmp::legal_grain(grain),
         cfgs: [0; 16],
         addrs: [0; 16],
     }

@@ -16,8 +16,9 @@ pub use read::is_pmp;
 pub use read::read_register;
 pub use write::write_register;
 
-// A configuration byte and an address register for each entry.
+// A configuration byte and an address register for each entry, and the grain. It comes last, so that the arrays lie at multiples of sixteen bytes.
 pub struct Pmp {
     pub cfgs: [u8; 16],
     pub addrs: [u64; 16],
+    pub grain: u64,
 }

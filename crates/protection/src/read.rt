@@ -23,7 +23,7 @@ pub fn read_register(pmp: Pmp, number: u64) -> u64
         0x3A2 => pmpcfg2(cfgs),
         0x3B0..=0x3BF => {
             let entry = (number - 0x3B0) as usize;
-            addrs[entry]
+            pmp::address_read(pmp.grain, cfgs[entry], addrs[entry])
         }
         _ => 0,
     }

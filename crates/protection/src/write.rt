@@ -5,13 +5,21 @@ use pmp::is_locked;
 ghost use mathlib.Core.Path.{_≡_};
 ghost use Prim.Native.Nat.{_+_, _≤_, _<_};
 ghost use lib.ListN.{getD};
+ghost use Rattle.protection.specs.Hold.{na4Unselectable};
 ghost use Rattle.protection.specs.Write.{configWritten, configsWritten, addressFrozen, addressWritten, pmpWritten};
 
-// A configuration byte after a write: the lock before it decides.
-fn config_written(old: u8, value: u8) -> u8
-    ensures { λ r. ⌜ r ≡ configWritten old value ⌝ }
+// Whether a byte has A=2 where no hart can hold that.
+fn is_unselectable(grain: u64, cfg: u8) -> bool
+    ensures { λ r. ⌜ r ≡ na4Unselectable grain cfg ⌝ }
 {
-    if is_locked(old) {
+    (cfg / 8 % 4 == 2) & (grain != 0)
+}
+
+// A configuration byte after a write: the lock before it decides, and the A that is written.
+fn config_written(grain: u64, old: u8, value: u8) -> u8
+    ensures { λ r. ⌜ r ≡ configWritten grain old value ⌝ }
+{
+    if is_locked(old) | is_unselectable(grain, value) {
         return old;
     }
     if value % 2 == 0 {
@@ -22,16 +30,16 @@ fn config_written(old: u8, value: u8) -> u8
 }
 
 // The eight bytes of one configuration register, each judged for itself.
-fn configs_written(given: [u8; 16], first: usize, value: u64) -> [u8; 16]
+fn configs_written(grain: u64, given: [u8; 16], first: usize, value: u64) -> [u8; 16]
     requires { ⌜ first ≤ 8 ⌝ }
-    ensures { λ r. ⌜ r ≡ configsWritten 8 first value given ⌝ }
+    ensures { λ r. ⌜ r ≡ configsWritten grain 8 first value given ⌝ }
 {
     let mut cfgs = given;
     let mut at = first;
     let mut rest = value;
     let mut left: usize = 8;
     while 0 < left {
-        cfgs[at] = config_written(cfgs[at], lowest_byte(rest));
+        cfgs[at] = config_written(grain, cfgs[at], lowest_byte(rest));
         at += 1;
         rest = rest / 256;
         left -= 1;
@@ -68,19 +76,29 @@ fn address_written(cfgs: [u8; 16], i: usize, old: u64, value: u64) -> u64
     }
 }
 
-// The registers after a write of any value to any number; a number that is not of protection changes nothing.
+// The registers after a write of any value to any number; a number that is not of protection changes nothing. The grain of 4 bytes is told apart, so that what is
+// compiled for it has no test of A.
 pub fn write_register(pmp: Pmp, number: u64, value: u64) -> Pmp
     ensures { λ r. ⌜ r ≡ pmpWritten pmp number value ⌝ }
 {
+    let grain = pmp.grain;
     let cfgs = pmp.cfgs;
     let mut w = pmp;
     match number {
         0x3A0 => {
-            w.cfgs = configs_written(cfgs, 0, value);
+            if grain == 0 {
+                w.cfgs = configs_written(0, cfgs, 0, value);
+                return w;
+            }
+            w.cfgs = configs_written(grain, cfgs, 0, value);
             w
         }
         0x3A2 => {
-            w.cfgs = configs_written(cfgs, 8, value);
+            if grain == 0 {
+                w.cfgs = configs_written(0, cfgs, 8, value);
+                return w;
+            }
+            w.cfgs = configs_written(grain, cfgs, 8, value);
             w
         }
         0x3B0..=0x3BF => {

@@ -96,7 +96,7 @@ fn show_query(
 fn show_nested() {
     let cfgs: [u8; 16] = [0x10, 0x1b, 0, 0, 0, 0, 0, 0, 0, 0, 0, 0, 0, 0, 0, 0];
     let addrs: [u64; 16] = [3, 0x1ff, 0, 0, 0, 0, 0, 0, 0, 0, 0, 0, 0, 0, 0, 0];
-    let map = map::compile(cfgs, addrs);
+    let map = map::compile(0, cfgs, addrs);
     show_map(map);
     show_query(cfgs, map, pmp::Mode::Machine, pmp::Access::Load, 8, 8);
     show_query(cfgs, map, pmp::Mode::Supervisor, pmp::Access::Load, 8, 4);
@@ -163,7 +163,7 @@ fn show_refusals() {
 fn show_full() {
     let cfgs = [0x10u8; 16];
     let addrs: [u64; 16] = [1, 3, 5, 7, 9, 11, 13, 15, 17, 19, 21, 23, 25, 27, 29, 31];
-    show_map(map::compile(cfgs, addrs));
+    show_map(map::compile(0, cfgs, addrs));
 }
 
 fn main() {

@@ -11,13 +11,13 @@ use Rattle.state.specs.declared.State.{State}
 use Rattle.state.specs.Words.{registerWords, wordsOf, registersOf, stateOf}
 
 -- the words of the state of words are the words
-pub words-back : (w : List ℕ) → Words 42 w → wordsOf (stateOf w) ≡ w
+pub words-back : (w : List ℕ) → Words 43 w → wordsOf (stateOf w) ≡ w
 unfolding wordsOf elements
 words-back w t =
     (λ j.
     registerWords (registersOf w)
-    ++ (low-back (getD w 23 0) (getD w 24 0) (t .below 23) j ∷ high-back (getD w 23 0) (getD w 24 0) (t .below 24) j ∷ elements 16 25 w ++ getD w 41 0 ∷ []))
-    ∙ elements-are w 42 0 (t .count)
+    ++ (low-back (getD w 23 0) (getD w 24 0) (t .below 23) j ∷ high-back (getD w 23 0) (getD w 24 0) (t .below 24) j ∷ elements 16 25 w ++ getD w 41 0 ∷ getD w 42 0 ∷ []))
+    ∙ elements-are w 43 0 (t .count)
 
 -- the state of the words of a state is the state
 pub state-back : (s : State) → Arrays (s .pmp) → stateOf (wordsOf s) ≡ s
@@ -26,7 +26,7 @@ state-back s t =
     λ j.
     record {
       registers = s .registers;
-      pmp = record { cfgs = configs-back (s .pmp .cfgs) (t .cfgs) (t .bytes) j; addrs = elements-are (s .pmp .addrs) 16 0 (t .addrs) j };
+      pmp = record { grain = s .pmp .grain; cfgs = configs-back (s .pmp .cfgs) (t .cfgs) (t .bytes) j; addrs = elements-are (s .pmp .addrs) 16 0 (t .addrs) j };
       satp = s .satp;
     }
 
@@ -34,6 +34,6 @@ state-back s t =
 pub words-state : (s : State) → Arrays (s .pmp) → {w : List ℕ} → w ≡ wordsOf s → stateOf w ≡ s
 words-state s t e = ap stateOf e ∙ state-back s t
 
--- 42 words are those of their state
-pub state-words : (w : List ℕ) {s : State} → Words 42 w → stateOf w ≡ s → w ≡ wordsOf s
+-- 43 words are those of their state
+pub state-words : (w : List ℕ) {s : State} → Words 43 w → stateOf w ≡ s → w ≡ wordsOf s
 state-words w t e = sym (words-back w t) ∙ ap wordsOf e

@@ -11,6 +11,7 @@ use Rattle.bits.proofs.Conjunction.{join}
 use Rattle.bits.proofs.ListLaws.{elements-take}
 use Rattle.registers.specs.Hold.{registersHoldable}
 use Rattle.registers.proofs.Held.{reset-held}
+use Rattle.pmp.specs.Entry.{grainHoldable}
 use Rattle.protection.specs.Configs.{configsOf}
 use Rattle.protection.specs.Hold.{configHoldable, addressHoldable, pmpHoldable}
 use Rattle.protection.proofs.Held.{reset-pmp-held}
@@ -25,18 +26,19 @@ pub hold : (s : State) → registersHoldable (s .registers) ≡ true → pmpHold
 unfolding canHold
 hold s p q v = join (registersHoldable (s .registers)) (pmpHoldable (s .pmp) && satpHoldable (s .satp)) p (join (pmpHoldable (s .pmp)) (satpHoldable (s .satp)) q v)
 
-pub reset-holds : canHold resetState ≡ true
-reset-holds = hold resetState reset-held reset-pmp-held refl
+pub reset-holds : (g : ℕ) → canHold (resetState g) ≡ true
+reset-holds g = hold (resetState g) reset-held (reset-pmp-held g) refl
 
 -- a slice of another length reads as the reset state
-pub other-length-holds : (w : List ℕ) → (length w ≡ 42 → ⊥) → canHold (loaded w) ≡ true
+pub other-length-holds : (w : List ℕ) → (length w ≡ 43 → ⊥) → canHold (loaded w) ≡ true
 unfolding loadedRegisters loadedPmp loadedSatp
-other-length-holds w h = rw (ne-eqb (length w) 42 h) reset-holds
+other-length-holds w h = rw (ne-eqb (length w) 43 h) (reset-holds 0)
 
--- 42 words hold one where their parts do
-pub words-hold : (w : List ℕ) → length w ≡ 42
+-- 43 words hold one where their parts do
+pub words-hold : (w : List ℕ) → length w ≡ 43
     → (registersHoldable (registersOf w)
-    && ((all configHoldable (configsOf (getD w 23 0) (getD w 24 0)) && all addressHoldable (take 16 (drop 25 w))) && satpHoldable (getD w 41 0)))
+    && ((grainHoldable (getD w 42 0) && (all (configHoldable (getD w 42 0)) (configsOf (getD w 23 0) (getD w 24 0)) && all addressHoldable (take 16 (drop 25 w))))
+    && satpHoldable (getD w 41 0)))
     ≡ canHold (loaded w)
 unfolding canHold pmpHoldable
 words-hold w fit = rw (← elements-take w 16 25 (omega arith)) (ap canHold (sym (all-loaded w fit)))

@@ -1,4 +1,4 @@
--- 01, "Saved text": the registers as words, in the order of its keys; then satp, of 02, [8], which that text does not have.
+-- 01, "Saved text": the registers as words, in the order of its keys; then satp and the grain, of 02, [8] and [9], which that text does not have.
 use Prim.Native.Nat.{ℕ}
 use mathlib.Core.List.{List, [], _∷_, _++_}
 use lib.ListN.{getD, take, drop}
@@ -47,7 +47,7 @@ abbrev pub textWords : State → List ℕ
 textWords s = registerWords (s .registers) ++ pmpWords (s .pmp)
 
 unfoldable pub wordsOf : State → List ℕ
-wordsOf s = textWords s ++ s .satp ∷ []
+wordsOf s = textWords s ++ s .satp ∷ s .pmp .grain ∷ []
 
 -- ---- and back
 
@@ -79,7 +79,7 @@ registersOf w =
     }
 
 abbrev pub pmpOf : List ℕ → Pmp
-pmpOf w = record { cfgs = configsOf (getD w 23 0) (getD w 24 0); addrs = elements entries 25 w }
+pmpOf w = record { grain = getD w 42 0; cfgs = configsOf (getD w 23 0) (getD w 24 0); addrs = elements entries 25 w }
 
 abbrev pub stateOf : List ℕ → State
 stateOf w = record { registers = registersOf w; pmp = pmpOf w; satp = getD w 41 0 }

@@ -11,14 +11,19 @@ ghost use Rattle.state.specs.Slices.{loaded};
 pub fn words_can_hold(words: &[u64]) -> bool
     ensures { λ r. ⌜ r ≡ canHold (loaded (now (words .entry))) ⌝ }
 {
-    if words.len() != 42 {
+    if words.len() != 43 {
         return true;
     }
+    let grain = words[places::GRAIN];
     let registers = registers::registers_can_hold(registers_at(words));
-    let configs = protection::configs_can_hold(words[places::PMPCFG0], words[places::PMPCFG2]);
+    let configs = protection::configs_can_hold(
+        grain,
+        words[places::PMPCFG0],
+        words[places::PMPCFG2],
+    );
     let addresses = protection::addresses_can_hold(&words[places::PMPADDR0..places::SATP]);
     let satp = paging::satp_can_hold(words[places::SATP]);
-    registers & ((configs & addresses) & satp)
+    registers & ((pmp::grain_can_hold(grain) & (configs & addresses)) & satp)
 }
 
 // Whether a hart can hold this state.
@@ -29,11 +34,12 @@ pub fn can_hold(state: State) -> bool
     words_can_hold(&words)
 }
 
-pub fn reset() -> State
-    ensures { λ r. ⌜ r ≡ resetState ⌝ }
+// The state of a hart that is made, or reset, with a grain.
+pub fn reset(grain: u64) -> State
+    ensures { λ r. ⌜ r ≡ resetState grain ⌝ }
 {
     let registers = registers::reset_registers();
-    let pmp = protection::reset();
+    let pmp = protection::reset(grain);
     State {
         registers,
         pmp,

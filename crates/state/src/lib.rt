@@ -1,4 +1,4 @@
-// All registers of a hart, and the 42 words in which they lie.
+// All registers of a hart, and the 43 words in which they lie.
 use protection::Pmp;
 use registers::Registers;
 

@@ -1,4 +1,4 @@
-// Where each register lies among the 42 words.
+// Where each register lies among the 43 words.
 pub const MODE: usize = 0;
 
 pub const PC: usize = 1;
@@ -52,3 +52,5 @@ pub const PMPCFG2: usize = 24;
 pub const PMPADDR0: usize = 25;
 
 pub const SATP: usize = 41;
+
+pub const GRAIN: usize = 42;

@@ -1,4 +1,4 @@
-// The words of the saved text: all but satp, which is 0 where a state has a text.
+// The words of the saved text: all but satp and the grain, which are 0 where a state has a text.
 use crate::State;
 use crate::words::load;
 use crate::words::to_words;
@@ -19,7 +19,8 @@ pub fn has_text(state: State) -> bool
     ensures { λ r. ⌜ r ≡ hasText state ⌝ }
 {
     let registers = state.registers;
-    (state.satp == 0)
+    let pmp = state.pmp;
+    ((state.satp == 0) & (pmp.grain == 0))
         & (!(registers.mstatus / SUM % 2 == 1) & (registers.medeleg & MEDELEG == registers.medeleg))
 }
 
@@ -46,7 +47,7 @@ pub fn to_text_words(state: State) -> [u64; 41]
 pub fn of_text_words(words: [u64; 41]) -> State
     ensures { λ r. ⌜ r ≡ textState words ⌝ }
 {
-    let mut all = [0u64; 42];
+    let mut all = [0u64; 43];
     copy_front(&words, &mut all);
     load(&all)
 }

@@ -1,4 +1,4 @@
-// The registers in the order of the saved text and then satp, in a slice that is read and written where it lies. A slice of another length holds no state: it reads
+// The registers in the order of the saved text, then satp and the grain, in a slice that is read and written where it lies. A slice of another length holds no state: it reads
 // as the reset state, and stays as it is.
 use crate::State;
 use crate::places;
@@ -8,13 +8,13 @@ use registers::Interrupts;
 use registers::LevelRegisters;
 use registers::Registers;
 ghost use mathlib.Core.Path.{_≡_};
-ghost use lib.ListN.{length};
+ghost use lib.ListN.{length, set};
 ghost use lib.Seq.{sets};
 ghost use Rattle.state.specs.Words.{registerWords, pmpWords, wordsOf, registersOf, pmpOf, stateOf};
 ghost use Rattle.state.specs.Slices.{loaded, loadedRegisters, loadedPmp, loadedSatp, stored, storedRegisters, storedPmp, storedSatp};
 
 pub(crate) fn registers_at(words: &[u64]) -> Registers
-    requires { ⌜ length (now words) ≡ 42 ⌝ }
+    requires { ⌜ length (now words) ≡ 43 ⌝ }
     ensures { λ r. ⌜ r ≡ registersOf (now (words .entry)) ⌝ }
 {
     let interrupts = Interrupts {
@@ -60,14 +60,14 @@ pub(crate) fn registers_at(words: &[u64]) -> Registers
 pub fn load_registers(words: &[u64]) -> Registers
     ensures { λ r. ⌜ r ≡ loadedRegisters (now (words .entry)) ⌝ }
 {
-    if words.len() != 42 {
+    if words.len() != 43 {
         return registers::reset_registers();
     }
     registers_at(words)
 }
 
 fn put_registers(registers: Registers, words: &mut [u64])
-    requires { ⌜ length (now words) ≡ 42 ⌝ }
+    requires { ⌜ length (now words) ≡ 43 ⌝ }
     ensures { λ _. ⌜ now (words .exit) ≡ sets (now (words .entry)) 0 (registerWords registers) ⌝ }
 {
     let interrupts = registers.interrupts;
@@ -103,7 +103,7 @@ fn put_registers(registers: Registers, words: &mut [u64])
 pub fn store_registers(registers: Registers, words: &mut [u64])
     ensures { λ _. ⌜ now (words .exit) ≡ storedRegisters registers (now (words .entry)) ⌝ }
 {
-    if words.len() != 42 {
+    if words.len() != 43 {
         return;
     }
     put_registers(registers, words);
@@ -111,7 +111,7 @@ pub fn store_registers(registers: Registers, words: &mut [u64])
 
 // The addresses are copied by a loop, here and below: it is compiled to one copy of 128 bytes, where sixteen reads stay sixteen loads and stores.
 fn pmp_at(words: &[u64]) -> Pmp
-    requires { ⌜ length (now words) ≡ 42 ⌝ }
+    requires { ⌜ length (now words) ≡ 43 ⌝ }
     ensures { λ r. ⌜ r ≡ pmpOf (now (words .entry)) ⌝ }
 {
     let mut addrs = [0u64; 16];
@@ -121,25 +121,30 @@ fn pmp_at(words: &[u64]) -> Pmp
         i += 1;
     }
     let cfgs = protection::configs_of(words[places::PMPCFG0], words[places::PMPCFG2]);
-    Pmp { cfgs, addrs }
+    Pmp {
+        grain: words[places::GRAIN],
+        cfgs,
+        addrs,
+    }
 }
 
 // The protection registers.
 pub fn load_pmp(words: &[u64]) -> Pmp
     ensures { λ r. ⌜ r ≡ loadedPmp (now (words .entry)) ⌝ }
 {
-    if words.len() != 42 {
-        return protection::reset();
+    if words.len() != 43 {
+        return protection::reset(0);
     }
     pmp_at(words)
 }
 
 fn put_pmp(pmp: Pmp, words: &mut [u64])
-    requires { ⌜ length (now words) ≡ 42 ⌝ }
-    ensures { λ _. ⌜ now (words .exit) ≡ sets (now (words .entry)) 23 (pmpWords pmp) ⌝ }
+    requires { ⌜ length (now words) ≡ 43 ⌝ }
+    ensures { λ _. ⌜ now (words .exit) ≡ sets (set (now (words .entry)) 42 (pmp .grain)) 23 (pmpWords pmp) ⌝ }
 {
     let cfgs = pmp.cfgs;
     let addrs = pmp.addrs;
+    words[places::GRAIN] = pmp.grain;
     words[places::PMPCFG0] = protection::pmpcfg0(cfgs);
     words[places::PMPCFG2] = protection::pmpcfg2(cfgs);
     let mut i: usize = 0;
@@ -153,7 +158,7 @@ fn put_pmp(pmp: Pmp, words: &mut [u64])
 pub fn store_pmp(pmp: Pmp, words: &mut [u64])
     ensures { λ _. ⌜ now (words .exit) ≡ storedPmp pmp (now (words .entry)) ⌝ }
 {
-    if words.len() != 42 {
+    if words.len() != 43 {
         return;
     }
     put_pmp(pmp, words);
@@ -162,7 +167,7 @@ pub fn store_pmp(pmp: Pmp, words: &mut [u64])
 pub fn load_satp(words: &[u64]) -> u64
     ensures { λ r. ⌜ r ≡ loadedSatp (now (words .entry)) ⌝ }
 {
-    if words.len() != 42 {
+    if words.len() != 43 {
         return 0;
     }
     words[places::SATP]
@@ -171,7 +176,7 @@ pub fn load_satp(words: &[u64]) -> u64
 pub fn store_satp(satp: u64, words: &mut [u64])
     ensures { λ _. ⌜ now (words .exit) ≡ storedSatp satp (now (words .entry)) ⌝ }
 {
-    if words.len() != 42 {
+    if words.len() != 43 {
         return;
     }
     words[places::SATP] = satp;
@@ -202,18 +207,18 @@ pub fn store(state: State, words: &mut [u64])
     store_satp(state.satp, words);
 }
 
-pub fn to_words(state: State) -> [u64; 42]
+pub fn to_words(state: State) -> [u64; 43]
     ensures { λ r. ⌜ r ≡ wordsOf state ⌝ }
     ensures { λ r. ⌜ stateOf r ≡ state ⌝ }
 {
     let pmp = state.pmp;
     protection::typed(pmp);
-    let mut words = [0u64; 42];
+    let mut words = [0u64; 43];
     store(state, &mut words);
     words
 }
 
-pub fn of_words(words: [u64; 42]) -> State
+pub fn of_words(words: [u64; 43]) -> State
     ensures { λ r. ⌜ r ≡ stateOf words ⌝ }
 {
     load(&words)

@@ -46,7 +46,7 @@ pub(crate) fn left_by(start: u64, hart: Hart, map: Map) -> u64 {
     let words = state::to_words(state);
     let mut sum = start;
     let mut i: usize = 0;
-    while i < 42 {
+    while i < 43 {
         sum = summed(sum, words[i]);
         i += 1;
     }

@@ -17,7 +17,7 @@ use translated::tables;
 
 // A hart from which a mix starts.
 fn set_up(mix: u64) -> Mapped {
-    let reset = Hart::reset();
+    let reset = Hart::reset(0);
     let mut hart = reset.hart;
     let mut map = reset.map;
     let none: [u64; 0] = [];

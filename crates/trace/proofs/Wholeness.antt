@@ -42,7 +42,7 @@ none-written s h = rw h
 
 -- ---- the starts
 
-from-reset : resetSession ≡ begun (resetMapped .hart) (resetMapped .map)
+from-reset : resetSession ≡ begun (resetMapped 0 .hart) (resetMapped 0 .map)
 unfolding resetSession
 from-reset = refl
 
@@ -189,7 +189,7 @@ module _ (m : Memory) where
     from-reset = from-reset;
     from-text = from-text;
     refused-text = refused-text;
-    reset-whole = λ full last. begun-whole resetSession (resetMapped .hart) (resetMapped .map) full last from-reset;
+    reset-whole = λ full last. begun-whole resetSession (resetMapped 0 .hart) (resetMapped 0 .map) full last from-reset;
     text-whole = λ text h map full last e. begun-whole (textSession text) h map full last (from-text text h map e);
     text-refused = text-refused;
   }

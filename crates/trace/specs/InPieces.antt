@@ -41,7 +41,7 @@ begun h map = record { replay = unread h map; left = 0; more = true; refusal = 0
 
 -- a text read back
 abbrev pub fromText : List ℕ → Stepped
-fromText text = restored (resetMapped .hart) (resetMapped .map) text
+fromText text = restored (resetMapped 0 .hart) (resetMapped 0 .map) text
 
 pub record InPieces (m : Memory) : Type 0 where
   -- full pieces and a shorter last one, from any session that has not ended
@@ -65,8 +65,8 @@ pub record InPieces (m : Memory) : Type 0 where
   pub last : (s : Session) (piece : List ℕ) → s .more ≡ true → (length piece ≡ 61440 → ⊥) → afterPiece m s piece .more ≡ false
   -- a session that has ended stays as it is
   pub stays : (s : Session) (piece : List ℕ) → s .more ≡ false → afterPiece m s piece ≡ s
-  -- the one start is the reset state with its map, and nothing read
-  pub from-reset : resetSession ≡ begun (resetMapped .hart) (resetMapped .map)
+  -- the one start is the reset state with G of 0 and its map, and nothing read
+  pub from-reset : resetSession ≡ begun (resetMapped 0 .hart) (resetMapped 0 .map)
   -- the other is the hart and map of a text that is taken, and nothing read
   pub from-text : (text : List ℕ) (h : Hart) (map : Map) → fromText text ≡ handedBack h map Done → textSession text ≡ begun h map
   -- a refused text ends its session at once, with the number of the refusal
@@ -74,7 +74,7 @@ pub record InPieces (m : Memory) : Type 0 where
       → (textSession text .more ≡ false) × (textSession text .refusal ≡ n)
   -- so a trace from reset writes what it gives at once from the reset state
   pub reset-whole : (full : List (List ℕ)) (last : List ℕ) → AllFull full → length last < 61440
-      → allWritten m resetSession (full ++ last ∷ []) ≡ replayed m (unread (resetMapped .hart) (resetMapped .map)) (joined full last)
+      → allWritten m resetSession (full ++ last ∷ []) ≡ replayed m (unread (resetMapped 0 .hart) (resetMapped 0 .map)) (joined full last)
   -- and one from a text that is taken, what it gives at once from the text's state
   pub text-whole : (text : List ℕ) (h : Hart) (map : Map) (full : List (List ℕ)) (last : List ℕ) → fromText text ≡ handedBack h map Done → AllFull full
       → length last < 61440 → allWritten m (textSession text) (full ++ last ∷ []) ≡ replayed m (unread h map) (joined full last)

@@ -29,15 +29,16 @@ sessionFrom h map refusal = record {
   refusal = refusal;
 }
 
+-- 02, [9]: from reset with a grain of 4 bytes, the only one that a text of 01 has
 unfoldable pub resetSession : Session
-resetSession = sessionFrom (resetMapped .hart) (resetMapped .map) 0
+resetSession = sessionFrom (resetMapped 0 .hart) (resetMapped 0 .map) 0
 
 -- 01, "Saved text": what reading a text back gives; a refused text starts nothing
 abbrev pub readSession : Stepped → Session
 readSession read = sessionFrom (read .hart) (read .map) (refusalOf (read .answer))
 
 unfoldable pub textSession : List ℕ → Session
-textSession text = readSession (restored (resetMapped .hart) (resetMapped .map) text)
+textSession text = readSession (restored (resetMapped 0 .hart) (resetMapped 0 .map) text)
 
 -- a full piece has 1,024 records
 abbrev pub fullPiece : ℕ

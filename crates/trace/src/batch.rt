@@ -14,7 +14,7 @@ ghost use Rattle.trace.specs.Buffers.{Put};
 ghost use Rattle.trace.specs.Batches.{carried, afterInput, inputLines};
 
 // The replay that a batch leaves. Its map is compiled here, once, where a step asked for it.
-fn handed_back(words: [u64; 42], remap: bool, map: Map, number: u64, stopped: bool) -> Replay
+fn handed_back(words: [u64; 43], remap: bool, map: Map, number: u64, stopped: bool) -> Replay
     ensures { λ r. ⌜ r ≡ carried (stateOf words) remap map number stopped ⌝ }
 {
     let state = state::of_words(words);

@@ -33,11 +33,11 @@ fn session_from(hart: Hart, map: Map, refusal: u64) -> Session
 }
 
 impl Session {
-    // A session from reset.
+    // A session from reset, with a grain of 4 bytes.
     pub fn from_reset() -> Session
         ensures { λ r. ⌜ r ≡ resetSession ⌝ }
     {
-        let reset = Hart::reset();
+        let reset = Hart::reset(0);
         let hart = reset.hart;
         let map = reset.map;
         session_from(hart, map, 0)
@@ -47,7 +47,7 @@ impl Session {
     pub fn from_text(text: &[u8]) -> Session
         ensures { λ r. ⌜ r ≡ textSession (now (text .entry)) ⌝ }
     {
-        let reset = Hart::reset();
+        let reset = Hart::reset(0);
         let before = reset.hart;
         let given = reset.map;
         let read = before.restore(given, text);

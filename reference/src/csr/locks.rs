@@ -1,5 +1,5 @@
 //! Writes of the protection registers under their locks, which are judged
-//! before the write.
+//! before the write, and under the grain.
 
 use crate::hart::Hart;
 use crate::holdable::mask;
@@ -14,14 +14,15 @@ impl Hart {
     pub(super) fn write_pmpcfg(&mut self, lowest: usize, value: u64) -> bool {
         let old = self.pmpcfg;
         for (entry, byte) in (lowest..).zip(value.to_le_bytes()) {
-            if !self.locked(entry) {
+            if !self.locked(entry) && !self.bars(byte) {
                 self.pmpcfg[entry] = lawful_configuration(byte);
             }
         }
         self.pmpcfg != old
     }
 
-    /// Says whether the register differs afterwards.
+    /// Stores all 54 bits, whatever the grain. Says whether the register, as stored,
+    /// differs afterwards.
     pub(super) fn write_pmpaddr(&mut self, entry: usize, value: u64) -> bool {
         if self.address_locked(entry) {
             return false;

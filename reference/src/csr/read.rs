@@ -20,7 +20,7 @@ impl Hart {
             SSTATUS..=SATP => self.read_supervisor_csr(number),
             PMPCFG0 => self.configuration_register(0),
             PMPCFG2 => self.configuration_register(8),
-            PMPADDR0..=PMPADDR15 => self.pmpaddr[(number - PMPADDR0) as usize],
+            PMPADDR0..=PMPADDR15 => self.read_pmpaddr((number - PMPADDR0) as usize),
             MCYCLE | CYCLE => self.mcycle,
             MINSTRET | INSTRET => self.minstret,
             _ => self.read_machine_csr(number),

@@ -1,5 +1,6 @@
 //! Addresses of accesses: close to borders, mostly.
 
+use super::grain::is_coarse;
 use crate::hart::Hart;
 use crate::map::Map;
 use crate::protection::MEMORY;
@@ -13,8 +14,11 @@ pub fn address(random: &mut Random, hart: &Hart, map: &Map) -> u64 {
         2 => return random.below(MEMORY),
         3 => MEMORY,
         4 => 0,
-        5 => 4u64.wrapping_mul(hart.pmpaddr[entry]),
-        6 => napot_border(random, hart.pmpaddr[entry]),
+        5 => 4u64.wrapping_mul(pmpaddr(random, hart, entry)),
+        6 => {
+            let pmpaddr = pmpaddr(random, hart, entry);
+            napot_border(random, pmpaddr)
+        }
         _ => range_border(random, map),
     };
     border.wrapping_add(random.below(19)).wrapping_sub(9)
@@ -23,6 +27,14 @@ pub fn address(random: &mut Random, hart: &Hart, map: &Map) -> u64 {
 /// An address from which most accesses lie across an end of a range of the map.
 pub fn near_range(random: &mut Random, map: &Map) -> u64 {
     range_border(random, map).wrapping_add(2).wrapping_sub(random.below(10))
+}
+
+/// As stored or, with a coarser grain, at times as it is read.
+fn pmpaddr(random: &mut Random, hart: &Hart, entry: usize) -> u64 {
+    if is_coarse(hart) && random.once_in(2) {
+        return hart.read_pmpaddr(entry);
+    }
+    hart.pmpaddr[entry]
 }
 
 fn napot_border(random: &mut Random, pmpaddr: u64) -> u64 {

@@ -1,8 +1,9 @@
-//! Random states, maps, steps, texts and page tables, biased to where programs go
+//! Random states, grains, maps, steps, texts and page tables, biased to where programs go
 //! wrong, the shapes of NAPOT registers, and settings that make many ranges.
 
 mod address;
 mod entries;
+mod grain;
 mod interrupts;
 mod map;
 mod memory;
@@ -15,13 +16,14 @@ mod text;
 mod tiles;
 
 pub use address::{address, near_range};
+pub use grain::grain;
 pub use interrupts::mixed_delegation;
 pub use map::map;
 pub use memory::memory;
 pub use napot::napot_registers;
 pub use paging::{Paging, paging};
 pub use settings::{Setting, settings};
-pub use state::{damaged, holdable, narrowed};
+pub use state::{damaged, finest, holdable, narrowed};
 pub use step::{csr_operand, size, step};
 pub use text::text;
 pub use tiles::tiles;

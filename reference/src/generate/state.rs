@@ -1,14 +1,21 @@
-//! States that a hart can hold, and states that it cannot. Half of the former have a
-//! saved text.
+//! States that a hart can hold, and states that it cannot.
 
 use super::entries::fill_entries;
+use super::grain::{coarsened, no_grain};
 use crate::hart::{HART_WORDS, Hart, MACHINE, SUPERVISOR, USER};
 use crate::holdable::mask;
 use crate::random::Random;
 use crate::status;
 use crate::sv39::satp;
 
+/// A state of any grain.
 pub fn holdable(random: &mut Random) -> Hart {
+    let hart = finest(random);
+    coarsened(random, &hart)
+}
+
+/// A state with a G of 0. Half of these have a saved text.
+pub fn finest(random: &mut Random) -> Hart {
     let mut hart = Hart::reset();
     hart.mode = random.pick(&[USER, SUPERVISOR, MACHINE]);
     hart.mstatus = mstatus(random);
@@ -32,6 +39,7 @@ pub fn narrowed(hart: &Hart) -> Hart {
         mstatus: hart.mstatus & (status::FIXED | mask::text::MSTATUS),
         medeleg: hart.medeleg & mask::text::MEDELEG,
         satp: 0,
+        grain: 0,
         ..*hart
     }
 }
@@ -102,13 +110,20 @@ fn fill_trap_registers(random: &mut Random, hart: &mut Hart) {
 pub fn damaged(random: &mut Random) -> [u64; HART_WORDS] {
     let mut words = holdable(random).to_words();
     let place = random.index(HART_WORDS);
-    match random.below(7) {
+    match random.below(9) {
         0 => words[0] = random.pick(&[2, 4, 7, 256, 1 << 32 | 3, 1 << 63 | 1]),
         1 => words[2] = status::with_mpp(words[2], 2),
         2 => words[23 + random.index(2)] ^= random.pick(&[2, 3, 32, 64]) << (8 * random.below(8)),
         3 => words[place] = random.word(),
         4 => words[25 + random.index(16)] |= 1 << (54 + random.below(10)),
         5 => words[41] ^= 1 << (44 + random.below(20)),
+        6 => words[42] = no_grain(random),
+        7 => {
+            // A = 2, which a hart can hold only with a G of 0.
+            let shift = 3 + 8 * random.below(8);
+            let word = &mut words[23 + random.index(2)];
+            *word = *word & !(3 << shift) | 2 << shift;
+        }
         _ => words[place] ^= 1 << random.below(64),
     }
     words

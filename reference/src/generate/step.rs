@@ -3,6 +3,7 @@
 
 use super::address::address;
 use super::entries::{configuration, pmpaddr};
+use super::grain::{by_grains, is_coarse};
 use super::state::instruction_address;
 use crate::csr::number::*;
 use crate::csr::{LAST_NUMBER, present};
@@ -94,8 +95,20 @@ fn operand(random: &mut Random, hart: &Hart, number: u64) -> u64 {
         PMPCFG0 if random.once_in(8) => hart.configuration_register(0),
         PMPCFG2 if random.once_in(8) => hart.configuration_register(8),
         PMPADDR0..=PMPADDR15 if random.once_in(8) => hart.pmpaddr[(number - PMPADDR0) as usize],
+        PMPADDR0..=PMPADDR15 if is_coarse(hart) => coarse_pmpaddr(random, hart.grain),
         _ => csr_operand(random, number),
     }
+}
+
+/// An operand for pmpaddr: nothing, bits below the grain, or also bits above.
+fn coarse_pmpaddr(random: &mut Random, grain: u64) -> u64 {
+    let above = match random.below(5) {
+        0 => return 0,
+        1 => 0,
+        2 => return csr_operand(random, PMPADDR0),
+        _ => pmpaddr(random),
+    };
+    by_grains(random, grain, above)
 }
 
 /// An operand that tells something of the register of this number.

@@ -1,6 +1,6 @@
 //! Texts: whole, with a state no hart can hold, and not in the saved form.
 
-use super::{damaged, holdable, narrowed};
+use super::{damaged, finest, narrowed};
 use crate::random::Random;
 use crate::text::{KEYS, form};
 
@@ -23,7 +23,7 @@ pub fn text(random: &mut Random) -> Vec<u8> {
 
 /// Of a state that has a text; at times with bits that a text may not hold.
 fn whole(random: &mut Random) -> Vec<u8> {
-    let hart = holdable(random);
+    let hart = finest(random);
     let hart = if random.once_in(8) { hart } else { narrowed(&hart) };
     form(&hart.to_words()).to_vec()
 }

@@ -5,7 +5,7 @@ pub mod paging;
 
 use reference::{
     Access, Answer, Cause, Entry, Hart, MACHINE, Map, Memory, Mode, Range, Refusal, Ruling, Step,
-    Verdict, step,
+    Verdict, make, step,
 };
 
 pub const WRITE: u64 = 1;
@@ -50,6 +50,16 @@ pub fn run_with_memory(
     let (mut hart, mut map) = (*hart, *map);
     let answer = step(&mut hart, &mut map, memory, Step::from_words(number, a, b).unwrap());
     (hart, map, answer)
+}
+
+/// A hart of this grain whose entries have these configuration bytes and addresses, from
+/// 0 on.
+pub fn hart_with(grain: u64, entries: &[(u8, u64)]) -> Hart {
+    let mut hart = make(grain).0;
+    for (entry, &(byte, pmpaddr)) in entries.iter().enumerate() {
+        (hart.pmpcfg[entry], hart.pmpaddr[entry]) = (byte, pmpaddr);
+    }
+    hart
 }
 
 pub fn in_mode(mode: u64) -> Hart {

@@ -28,7 +28,7 @@ called c =
     sym (test (a .hart .now) (a .map .now) (a .mode) (a .kind) (a .answer .now) (q .before .fit .ensures) (q .queryable .ensures)) ∙ not-false _ (c .if1 .left)
 
 fitted : (c : tie.Else1) → let a = c .before .before .before .before .before .before .args in
-    (length (a .hart .now) ≡ 42) × (length (a .map .now) ≡ 100) × (length (a .answer .now) ≡ 4)
+    (length (a .hart .now) ≡ 43) × (length (a .map .now) ≡ 100) × (length (a .answer .now) ≡ 4)
 fitted c =
     let a = c .before .before .before .before .before .before .args in
     lengths (a .hart .now) (a .map .now) (a .mode) (a .kind) (a .answer .now) (called c)

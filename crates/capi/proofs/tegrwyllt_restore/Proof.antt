@@ -19,8 +19,8 @@ returns c =
 fitted : (c : tie.Else1) → let a = c .before .before .before .before .before .args in fits (a .hart .now) (a .map .now) ≡ true
 fitted c = sym (c .before .fit .ensures) ∙ not-false _ (c .if1 .left)
 
--- the hart's slice holds 42 words
-words : (c : tie.Else1) → let a = c .before .before .before .before .before .args in Words 42 (a .hart .now)
+-- the hart's slice holds 43 words
+words : (c : tie.Else1) → let a = c .before .before .before .before .before .args in Words 43 (a .hart .now)
 words c =
     let a = c .before .before .before .before .before .args in
     let k = c .before .before .before in
@@ -34,23 +34,22 @@ returns-2 c =
     let a = e .before .before .before .before .before .args in
     restore-refused (a .text .now) (a .hart .now) (a .map .now) (fitted e) (words e) _ _ (r .restore .ensures .0) (n .refusal-of .ensures) (c .if2 .taken)
 
-store-map-requires : tie.Need-store-map-requires
-store-map-requires c κs =
-    let e = c .before .before .before .before .before .before .before .before .before .before .before .before in
+put-requires : tie.Need-put-requires
+put-requires c κs =
+    let e = c .before .before .before .before .before .before .before .before in
     let a = e .before .before .before .before .before .args in
-    fitting (a .hart .now) (a .map .now) (fitted e) .1
+    fitting (a .hart .now) (a .map .now) (fitted e)
 
 returns-3 : tie.Need-returns-3
 returns-3 c =
-    let m = c .before .before in
-    let s = m .before .before .before .before .before in
-    let i = s .before .before .before .before in
+    let p = c .before .before .before .before in
+    let i = p .before .before .before .before .before in
     let n = i .before in
     let r = n .before in
     let e = r .before .before in
     let a = e .before .before .before .before .before .args in
     restore-done (a .text .now) (a .hart .now) (a .map .now) (fitted e) (words e) _ _ (r .restore .ensures .0) (n .refusal-of .ensures) (i .if2 .left)
-    (s .store .ensures) (m .store-map .ensures)
+    (p .put .ensures .0) (p .put .ensures .1)
 
 pub tegrwyllt-restore-spec : {M : Type 1} → statement M
 tegrwyllt-restore-spec =
@@ -62,8 +61,7 @@ tegrwyllt-restore-spec =
     (λ c κs. search needs)
     (λ c κs. search needs)
     returns-2
-    (λ c κs. search needs)
-    store-map-requires
+    put-requires
     (λ c. search needs)
     (λ c. search needs)
     returns-3)

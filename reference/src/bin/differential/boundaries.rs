@@ -77,7 +77,7 @@ pub fn walk(sizes: &Sizes) -> Result<Judged, Difference> {
 }
 
 fn with_setting(random: &mut Random, setting: &Setting) -> Hart {
-    let hart = generate::narrowed(&generate::holdable(random));
+    let hart = generate::narrowed(&generate::finest(random));
     setting.put(&Hart { mode: MACHINE, ..hart })
 }
 

@@ -3,8 +3,9 @@
 use std::fmt::{self, Display, Formatter};
 
 use reference::protection::leaves_memory;
-use reference::{Hart, NONE, STEP_WORDS, Step};
+use reference::{Hart, NONE, STEP_WORDS};
 
+use crate::accesses::asked;
 use crate::classes::{Class, Tally};
 use crate::lent::Lent;
 use crate::report::Difference;
@@ -30,13 +31,7 @@ impl Access {
     /// The access of an accepted step 14 to 16 with a physical address.
     fn of(lent: &Lent, words: [u64; STEP_WORDS]) -> Option<Access> {
         let hart = Hart::from_words(&lent.hart);
-        let (mode, address, size) = match Step::from_words(words[0], words[1], words[2])? {
-            Step::Fetch => (hart.mode, hart.pc, 4),
-            Step::Load { address, size } | Step::Store { address, size } => {
-                (hart.effective_mode(), address, size)
-            }
-            _ => return None,
-        };
+        let (mode, _, address, size) = asked(&hart, words)?;
         let accepted = hart.can_hold() && lent.memory().is_lawful();
         if !accepted || !matches!(size, 1 | 2 | 4 | 8) || hart.is_translated(mode) {
             return None;

@@ -1,8 +1,10 @@
 //! How an access under Sv39 ends and why, judged apart from the model's walk, so that
 //! one sees whether page tables have led everywhere.
 
-use reference::{Access, Hart, Memory, STEP_WORDS, Step, status};
+use reference::{Access, Hart, Memory, STEP_WORDS, status};
 
+use crate::accesses::asked;
+use crate::grains::finest;
 use crate::walker::Walker;
 
 /// How the accesses in order end: at the first that is not granted.
@@ -50,37 +52,39 @@ pub struct Diagnosis {
     pub parts: u64,
     pub part: u64,
     pub end: End,
-    /// Whether the end would be another without SUM, or without MXR.
+    /// Whether the end would be another without SUM, without MXR, or with a G of 0.
     pub by_sum: bool,
     pub by_mxr: bool,
+    pub by_grain: bool,
 }
 
 impl Diagnosis {
     /// Of a step 14 to 16 that refusals 3 and 1 leave.
     pub fn of(hart: &Hart, memory: Memory, words: [u64; STEP_WORDS]) -> Option<Diagnosis> {
-        let (access, effective, address, size) =
-            match Step::from_words(words[0], words[1], words[2])? {
-                Step::Fetch => (Access::Fetch, hart.mode, hart.pc, 4),
-                Step::Load { address, size } => {
-                    (Access::Load, hart.effective_mode(), address, size)
-                }
-                Step::Store { address, size } => {
-                    (Access::Store, hart.effective_mode(), address, size)
-                }
-                _ => return None,
-            };
+        let (effective, access, address, size) = asked(hart, words)?;
         if !hart.can_hold() || !matches!(size, 1 | 2 | 4 | 8) {
             return None;
         }
         let walker = Walker { hart, memory, mode: effective, access };
         let (parts, part, end) = walker.end(address, size);
-        let without = |bit: u64| {
-            let hart = Hart { mstatus: hart.mstatus & !bit, ..*hart };
-            Walker { hart: &hart, ..walker }.end(address, size).2 != end
-        };
+        let ends_otherwise =
+            |hart: Hart| Walker { hart: &hart, ..walker }.end(address, size).2 != end;
+        let without = |bit: u64| ends_otherwise(Hart { mstatus: hart.mstatus & !bit, ..*hart });
         let (by_sum, by_mxr) = (without(status::SUM), without(status::MXR));
+        let by_grain = hart.grain > 0 && ends_otherwise(finest(hart));
         let mode = hart.mode;
-        Some(Diagnosis { access, mode, effective, address, parts, part, end, by_sum, by_mxr })
+        Some(Diagnosis {
+            access,
+            mode,
+            effective,
+            address,
+            parts,
+            part,
+            end,
+            by_sum,
+            by_mxr,
+            by_grain,
+        })
     }
 
     /// The first two words of the answer.

@@ -2,14 +2,15 @@
 //! difference.
 //!
 //! `differential [small] [loud] [only=N] [seed=N] [walks=N] [steps=N] [runs=N]
-//! [queries=N] [texts=N] [calls=N] [paging=N]`: numbers are decimal; one walk is every CSR number in
-//! every mode by every operation with all else that its access hangs on, every choice
-//! that step 7 can have to make, every shape of a NAPOT register, every setting listed
-//! for the boundaries of a map, every map of a few ranges over a few bytes, the bits of a
-//! page-table entry at every level by every kind of access, every bit of
-//! every word of a state and every configuration byte, every place of a text with
-//! telling bytes, and every length of a short run and its answers. Should the product
-//! end the program, `loud` tells the case, and `only` what it was lent.
+//! [queries=N] [texts=N] [calls=N] [paging=N]`: numbers are decimal; one walk is every CSR
+//! number in every mode by every operation with all else that its access hangs on, every
+//! choice that step 7 can have to make, every shape of a NAPOT register, every grain under
+//! every A with bits set around it, every setting listed for the boundaries of a map, every
+//! map of a few ranges over a few bytes, the bits of a page-table entry at every level by
+//! every kind of access, every bit of every word of a state and every configuration byte,
+//! every place of a text with telling bytes, every length of a short run and its answers,
+//! and every kind of word for the grain of a hart that is made. Should the product end the
+//! program, `loud` tells the case, and `only` what it was lent.
 //!
 //! The last line tells how many CSR steps of the walks were done, refused, or illegal
 //! for each reason of document 01. In each walk these must be exactly as many as
@@ -20,23 +21,28 @@
 //! single order of document 01 would have chosen another interrupt than request [2]
 //! does. In each walk that must be exactly 3,402, or the comparison fails. The same
 //! goes for the NAPOT entries whose range would be another if trailing zeros were
-//! counted: 3,074 in each walk. And for the maps with 33 ranges that the listed
-//! settings make: 406 in each walk. Of queries, and of accesses by steps, it tells how
-//! many were of each class; the comparison fails where a class has too few of them. So
-//! it does of the accesses by page tables, whose ends `diagnosis.rs` judges by itself.
+//! counted: 3,074 in each walk. And for the entries that a grain makes read unlike what
+//! is stored, 737, or match other bytes, 463. And for the maps with 33 ranges that the
+//! listed settings make: 406 in each walk. Of queries, of accesses by steps, of steps by
+//! their grain and of texts saved, it tells how many were of each class; the comparison
+//! fails where a class has too few of them. So it does of the accesses by page tables,
+//! whose ends `diagnosis.rs` judges by itself.
 
 mod accesses;
 mod boundaries;
 mod calls;
 mod classes;
+mod coarse;
 mod compare;
 mod deciders;
 mod diagnosis;
 mod entries;
+mod grains;
 mod held;
 mod interrupts;
 mod lengths;
 mod lent;
+mod making;
 mod napot;
 mod narrow;
 mod orders;
@@ -89,17 +95,19 @@ fn compare_all(sizes: &Sizes) -> Result<String, Difference> {
     let reasons = registers::walk(sizes)?;
     let walk_orders = interrupts::walk(sizes)?;
     let trailing = napot::walk(sizes)?;
+    let coarse = coarse::walk(sizes)?;
     let judged = boundaries::walk(sizes)?;
     let narrow = narrow::walk(sizes)?;
     let entries = entries::walk(sizes)?;
     let held = held::walk(sizes)?;
     let spelled = texts::walk(sizes)?;
     let lengths = lengths::walk(sizes)?;
+    let made = making::walk(sizes)?;
     let step_telling = steps::random(sizes)?;
     let (run_steps, run_telling) = runs::random(sizes)?;
     let reads = queries::random(sizes)?;
     texts::restored(sizes)?;
-    let without_text = texts::saved(sizes)?;
+    let saves = texts::saved(sizes)?;
     calls::wrong(sizes)?;
     let outcomes = paging::random(sizes)?;
     if let Some(case) = sizes.only {
@@ -107,13 +115,13 @@ fn compare_all(sizes: &Sizes) -> Result<String, Difference> {
     }
     Ok(format!(
         "CSR walks of {reasons}, interrupt walks of {walk_orders}, NAPOT walks of {trailing}, \
-         boundary walks of {judged}, walks over narrow maps, each of {narrow}, \
+         grain walks of {coarse}, boundary walks of {judged}, walks over narrow maps, each of {narrow}, \
          walks over page-table entries of {entries}, \
          {held} states with one word changed, {spelled} texts with one byte changed, \
-         {lengths} runs of any lengths, {} random steps with {step_telling}, \
+         {lengths} runs of any lengths, {made} harts made or not, {} random steps with {step_telling}, \
          {} runs of {run_steps} steps with {run_telling}, \
-         {} queries with {reads}, {} texts read, {} texts saved ({without_text} refused 12), {} wrong calls, \
+         {} queries with {reads}, {} texts read, {saves}, {} wrong calls, \
          {} settings of page tables with {outcomes}",
-        sizes.steps, sizes.runs, sizes.queries, sizes.texts, sizes.texts, sizes.calls, sizes.paging
+        sizes.steps, sizes.runs, sizes.queries, sizes.texts, sizes.calls, sizes.paging
     ))
 }

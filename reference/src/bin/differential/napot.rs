@@ -1,13 +1,12 @@
 //! NAPOT entries with every shape of pmpaddr: their maps, and accesses at the
 //! borders of their ranges.
 
-use reference::capi::Question;
 use reference::csr::number;
 use reference::protection::{LOCK, NAPOT};
 use reference::random::Random;
-use reference::{Hart, MACHINE, Range, SUPERVISOR, USER, generate, mask};
+use reference::{Hart, MACHINE, Range, generate, mask};
 
-use crate::accesses::compare_access;
+use crate::accesses::compare_borders;
 use crate::compare::step_both;
 use crate::lent::Lent;
 use crate::report::{Difference, Stage};
@@ -24,19 +23,8 @@ const TELLING_ENTRIES: u64 = 2 * (1538 - 1);
 
 const WRITE: u64 = 1;
 const SET: u64 = 2;
-/// Kinds of access, as in a query.
-const FETCH: u64 = 0;
-const LOAD: u64 = 1;
-const STORE: u64 = 2;
-
 /// The lowest bit of a configuration byte.
 const READ: u8 = 1;
-/// The accesses to try at each border, by mode and kind. Their answers hang on
-/// it, the entry being locked and readable alone: M may fetch and store only
-/// outside, S and U may load only inside, and M may load on both sides, but not
-/// across.
-const BORDER_ACCESSES: [(u64, u64); 5] =
-    [(MACHINE, FETCH), (MACHINE, LOAD), (MACHINE, STORE), (SUPERVISOR, LOAD), (USER, LOAD)];
 
 /// Every register as entry 0 and as a higher one, each from a state in M with all
 /// other entries off, and random in all else. Gives how often the wrong count
@@ -52,7 +40,7 @@ pub fn walk(sizes: &Sizes) -> Result<Trailing, Difference> {
         let hart = Hart::from_words(&lent.hart);
         let range = matched_range(&hart, entry);
         trailing.count(&hart, entry, range);
-        compare_borders(&lent, range)
+        compare_borders(&lent, [range.first, range.last + 1])
     })?;
     let expected = sizes.walks * TELLING_ENTRIES;
     if sizes.only.is_none() && trailing.differing != expected {
@@ -76,9 +64,9 @@ fn locked_entry(random: &mut Random, entry: usize, pmpaddr: u64) -> Result<Lent,
     step_both(&written, [SET, pmpcfg, u64::from(LOCK) << (8 * (entry % 8))])
 }
 
-/// A hart in M with one NAPOT entry, readable alone, and all others off.
+/// A hart in M with a G of 0 and one NAPOT entry, readable alone, all others being off.
 fn only_entry(random: &mut Random, entry: usize, pmpaddr: u64) -> Hart {
-    let mut hart = Hart { mode: MACHINE, ..generate::holdable(random) };
+    let mut hart = Hart { mode: MACHINE, ..generate::finest(random) };
     hart.pmpcfg = hart.pmpcfg.map(|byte| byte & !(3 << 3));
     hart.pmpcfg[entry] = NAPOT << 3 | READ;
     hart.pmpaddr[entry] = pmpaddr;
@@ -90,18 +78,4 @@ fn matched_range(hart: &Hart, entry: usize) -> Range {
     let map = hart.compile();
     let mut ranges = map.listed().iter();
     *ranges.find(|range| range.owner == entry as u64).expect("NAPOT matches some byte")
-}
-
-/// The bytes on both sides of each border, and 8 bytes across it. What lies past
-/// an end of memory is asked too.
-fn compare_borders(lent: &Lent, range: Range) -> Result<(), String> {
-    for border in [range.first, range.last + 1] {
-        for (before, size) in [(1, 1), (0, 1), (4, 8)] {
-            for (mode, kind) in BORDER_ACCESSES {
-                let address = border.wrapping_sub(before);
-                compare_access(lent, Question { mode, kind, address, size })?;
-            }
-        }
-    }
-    Ok(())
 }

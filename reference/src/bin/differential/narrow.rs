@@ -5,7 +5,7 @@ use std::iter;
 use reference::capi::Question;
 use reference::protection::{LOCK, MEMORY};
 use reference::random::Random;
-use reference::{Hart, Map, Mode, NONE, RANGES, Range};
+use reference::{COARSEST, Hart, Map, Mode, NONE, RANGES, Range, make};
 
 use crate::lent::Lent;
 use crate::queries::compare_query;
@@ -100,8 +100,9 @@ impl Window {
     }
 }
 
-/// A hart with any rights and locks in all entries, which are off.
+/// A hart of any grain with any rights and locks in all entries, which are off.
 fn hart(random: &mut Random) -> Hart {
     let byte = |_| random.pick(&RIGHTS) | random.pick(&[0, LOCK]);
-    Hart { pmpcfg: std::array::from_fn(byte), ..Hart::reset() }
+    let pmpcfg = std::array::from_fn(byte);
+    Hart { pmpcfg, ..make(random.below(COARSEST + 1)).0 }
 }

@@ -8,7 +8,7 @@ use crate::classes::{Class, Tally};
 use crate::diagnosis::{Diagnosis, End, Flaw};
 use crate::report::Difference;
 
-const CLASSES: [Class<Diagnosis>; 45] = [
+const CLASSES: [Class<Diagnosis>; 46] = [
     class("translated", 2, Diagnosis::is_translated),
     class("refused 13", 50, |case| case.end == End::Refused),
     class("not translated", 20, |case| case.end == End::Untranslated),
@@ -38,7 +38,7 @@ const CLASSES: [Class<Diagnosis>; 45] = [
     class("with a page fault in part two", 80, |case| {
         in_second(case) && matches!(case.end, End::Page(_))
     }),
-    class("with a denied table read in part two", 800, |case| {
+    class("with a denied table read in part two", 1500, |case| {
         in_second(case) && matches!(case.end, End::TableDenied(_))
     }),
     class("outside the slice in part two", 800, |case| {
@@ -50,6 +50,7 @@ const CLASSES: [Class<Diagnosis>; 45] = [
     class("with a fault in part two there", 800, |case| in_second(case) && at_hole(case.address)),
     class("granted or not by SUM", 100, |case| case.by_sum),
     class("by MXR", 200, |case| case.by_mxr),
+    class("by the grain", 200, |case| case.by_grain),
     class("fetches granted", 50, |case| granted(case, Access::Fetch)),
     class("loads granted", 20, |case| granted(case, Access::Load)),
     class("stores granted", 30, |case| granted(case, Access::Store)),

@@ -80,7 +80,7 @@ impl<'a> Stage<'a> {
 
 /// The name of each word of a state.
 fn keys() -> impl Iterator<Item = &'static str> {
-    KEYS.into_iter().chain(["satp"])
+    KEYS.into_iter().chain(["satp", "grain"])
 }
 
 /// A state in the style of the saved text, whether or not it can be held.

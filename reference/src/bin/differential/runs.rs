@@ -1,7 +1,7 @@
 //! Lists of steps: the product's run against both programs step by step.
 
 use reference::random::Random;
-use reference::{ANSWER_WORDS, Hart, Map, STEP_WORDS, capi};
+use reference::{ANSWER_WORDS, STEP_WORDS, capi, generate, make};
 
 use crate::compare::{map_difference, result_difference};
 use crate::lent::Lent;
@@ -30,7 +30,10 @@ pub fn random(sizes: &Sizes) -> Result<(u64, Telling), Difference> {
 
 fn random_start(random: &mut Random) -> Lent {
     match random.below(4) {
-        0 => Lent::new(Hart::reset().to_words(), Map::reset().to_words()),
+        0 => {
+            let (hart, map) = make(generate::grain(random));
+            Lent::new(hart.to_words(), map.to_words())
+        }
         _ => Lent::random(random),
     }
 }

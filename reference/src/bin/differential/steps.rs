@@ -1,7 +1,7 @@
 //! Single random steps.
 
 use reference::random::Random;
-use reference::{Hart, Map, STEP_WORDS, generate};
+use reference::{COARSEST, Hart, Map, STEP_WORDS, generate};
 
 use crate::compare::compare_step;
 use crate::lent::Lent;
@@ -10,6 +10,7 @@ use crate::report::{Difference, Stage};
 use crate::sizes::Sizes;
 use crate::telling::Telling;
 
+const RESET: u64 = 0;
 const LOAD: u64 = 15;
 const STORE: u64 = 16;
 
@@ -26,14 +27,17 @@ pub fn random(sizes: &Sizes) -> Result<Telling, Difference> {
     Ok(telling)
 }
 
-/// A step that suits the state and the map: often step 7 where it has a choice, and
-/// loads and stores often across an end of the ranges that the registers make.
+/// A step that suits the state and the map: often step 7 where it has a choice, and step
+/// 0 where no other takes the grain; loads and stores often across an end of the ranges that the registers make.
 pub fn random_step(random: &mut Random, lent: &Lent) -> [u64; STEP_WORDS] {
     let hart = Hart::from_words(&lent.hart);
     let [number, a, b] = generate::step(random, &hart, &Map::from_words(&lent.map));
     let takeable = (0..12).filter(|&code| hart.takeable(code)).count();
     if takeable > 1 && random.once_in(4) {
         return [TAKE_INTERRUPT, a, b];
+    }
+    if hart.grain > COARSEST && random.once_in(4) {
+        return [RESET, a, b];
     }
     let across = matches!(number, LOAD | STORE) && hart.can_hold() && random.once_in(2);
     let a = if across { generate::near_range(random, &hart.compile()) } else { a };

@@ -1,11 +1,15 @@
 //! Texts read back and saved.
 
+use std::fmt::{self, Display, Formatter};
+
 use reference::random::Random;
 use reference::{
     HART_WORDS, Hart, MAP_WORDS, Refusal, TEXT_LENGTH, capi, form, generate, restore, save,
 };
 
+use crate::classes::{Class, Tally};
 use crate::compare::map_difference;
+use crate::grains::finest;
 use crate::lent::Lent;
 use crate::report::{Difference, Stage, show, state_difference, state_text};
 use crate::sizes::Sizes;
@@ -20,7 +24,7 @@ pub fn walk(sizes: &Sizes) -> Result<u64, Difference> {
     let texts = sizes.walks * (TEXT_LENGTH * TELLING.len()) as u64;
     Stage::new("texts walked", sizes, texts).run(|random, case| {
         let case = case as usize;
-        let mut text = form(&generate::narrowed(&generate::holdable(random)).to_words());
+        let mut text = form(&generate::narrowed(&generate::finest(random)).to_words());
         text[case / TELLING.len() % TEXT_LENGTH] = TELLING[case % TELLING.len()];
         compare_restore(&text, &other_words(random))
     })?;
@@ -71,23 +75,52 @@ fn restore_difference(text: &[u8], lent: &Lent) -> Result<Lent, String> {
     map_difference(&expected.map, &found.map, number == 0).map_or(Ok(found), Err)
 }
 
-/// States saved into buffers too short, just long enough, and longer. Gives how many
-/// have no text, which must be one in ten at least.
-pub fn saved(sizes: &Sizes) -> Result<u64, Difference> {
-    let mut without_text = 0;
+/// A state saved, and 0 or the number of the refusal.
+struct Saved {
+    hart: Hart,
+    number: u64,
+}
+
+const CLASSES: [Class<Saved>; 3] = [
+    Class { name: "done", one_in: 20, holds: |saved| saved.number == 0 },
+    Class { name: "refused 12", one_in: 10, holds: Saved::has_no_text },
+    Class {
+        name: "by the grain alone",
+        one_in: 10,
+        holds: |saved| saved.has_no_text() && finest(&saved.hart).has_text(),
+    },
+];
+
+impl Saved {
+    fn has_no_text(&self) -> bool {
+        self.number == Refusal::NoText.number()
+    }
+}
+
+/// How many saves there were of each class.
+pub struct Saves(Tally<Saved>);
+
+impl Display for Saves {
+    fn fmt(&self, formatter: &mut Formatter) -> fmt::Result {
+        self.0.fmt(formatter)
+    }
+}
+
+/// States saved into buffers too short, just long enough, and longer. Gives how that
+/// ended.
+pub fn saved(sizes: &Sizes) -> Result<Saves, Difference> {
+    let mut saves = Tally::new("texts saved", &CLASSES);
     Stage::new("texts saved", sizes, sizes.texts).run(|random, _| {
         let hart = Lent::random(random).hart;
         let length = buffer_length(random);
         let filling = random.word();
         let buffer: Vec<u8> = (0..length).map(|place| (filling >> (place % 57)) as u8).collect();
-        let refused = compare_save(&hart, &buffer)? == Refusal::NoText.number();
-        without_text += u64::from(refused);
+        let number = compare_save(&hart, &buffer)?;
+        saves.count(&Saved { hart: Hart::from_words(&hart), number });
         Ok(())
     })?;
-    if sizes.only.is_none() && sizes.texts >= 10_000 && without_text < sizes.texts / 10 {
-        return Err(Difference(format!("texts saved\ntoo few refused 12: {without_text}")));
-    }
-    Ok(without_text)
+    saves.check("texts saved")?;
+    Ok(Saves(saves))
 }
 
 fn buffer_length(random: &mut Random) -> usize {

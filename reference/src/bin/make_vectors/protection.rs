@@ -134,7 +134,7 @@ fn any_accesses(random: &mut Random) -> Vector {
 
 fn many_ranges(random: &mut Random) -> Hart {
     loop {
-        let hart = generate::narrowed(&generate::holdable(random));
+        let hart = generate::narrowed(&generate::finest(random));
         let hart = Hart { mode: MACHINE, mtvec: 0, ..hart };
         if hart.compile().count > 20 {
             return hart;

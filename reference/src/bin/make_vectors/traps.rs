@@ -91,7 +91,7 @@ fn time() -> Vector {
 /// Random steps from a random state; arguments not used are 0, as a trace
 /// demands.
 fn any_steps(random: &mut Random) -> Vector {
-    let start = generate::narrowed(&generate::holdable(random));
+    let start = generate::narrowed(&generate::finest(random));
     let (mut hart, mut map) = (start, Map::reset());
     let steps: Vec<[u64; 3]> = (0..1500)
         .map(|_| {

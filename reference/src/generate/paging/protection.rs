@@ -44,12 +44,13 @@ fn random_place(random: &mut Random, tables: &Tables, page: u64) -> u64 {
 }
 
 /// Gives an entry the four bytes at a place, the eight or the page around it, or all
-/// from the entry below on.
+/// from the entry below on; with a coarser grain, at least the grain around it.
 fn cover(random: &mut Random, hart: &mut Hart, entry: usize, place: u64) {
     let word = place >> 2;
     let (matching, pmpaddr) = match random.below(8) {
-        0 => (NA4, word),
-        1 => (NA4, word | 1),
+        0 if hart.grain == 0 => (NA4, word),
+        1 if hart.grain == 0 => (NA4, word | 1),
+        0 | 1 => (NAPOT, word & !(1 << (hart.grain - 1))),
         2..=4 => (NAPOT, word & !1),
         5 | 6 => (NAPOT, word & !0x3FF | 0x1FF),
         _ => {

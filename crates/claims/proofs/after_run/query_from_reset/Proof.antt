@@ -16,7 +16,7 @@ returns c =
     let steps = stepsIn (memoryAt (a .memory .now) (a .base)) (a .steps .now) in
     c .query-after .ensures
     ∙ ap (λ (m : Mapped). queryAfter m steps (a .mode) (a .access) (a .address) (a .size)) (r .reset .ensures)
-    ∙ query-after resetMapped reset-sound steps (a .mode) (a .access) (a .address) (a .size)
+    ∙ query-after (resetMapped (a .grain)) (reset-sound (a .grain)) steps (a .mode) (a .access) (a .address) (a .size)
 
 pub query-from-reset-spec : {M : Type 1} → statement M
 query-from-reset-spec = tie.close (tie.spec (λ c κs. search needs) (λ c κs. search needs) returns)

@@ -15,10 +15,10 @@ use Rattle.engine.proofs.runs.run.Tie as tie
 
 -- the test that the code makes
 tested : (c : tie.After-name-steps) → let a = c .before .before .before .before .before .args in
-    (eqb (length (a .words .now)) 42 && c .name-steps .result) ≡ runTest (a .words .now) (a .steps .now)
+    (eqb (length (a .words .now)) 43 && c .name-steps .result) ≡ runTest (a .words .now) (a .steps .now)
 tested c =
     let a = c .before .before .before .before .before .args in
-    ap (λ (b : Bool). eqb (length (a .words .now)) 42 && b) (c .name-steps .ensures)
+    ap (λ (b : Bool). eqb (length (a .words .now)) 43 && b) (c .name-steps .ensures)
 
 returns : tie.Need-returns
 returns c =
@@ -32,8 +32,8 @@ run-steps-requires c κs =
     let i = c .before .before in
     let n = i .before in
     let a = n .before .before .before .before .before .args in
-    let k = both (eqb (length (a .words .now)) 42) (nameSteps (a .steps .now)) (sym (tested n) ∙ not-false _ (i .if1 .left)) in
-    (eqb-true (length (a .words .now)) 42 (k .0), k .1)
+    let k = both (eqb (length (a .words .now)) 43) (nameSteps (a .steps .now)) (sym (tested n) ∙ not-false _ (i .if1 .left)) in
+    (eqb-true (length (a .words .now)) 43 (k .0), k .1)
 
 returns-2 : tie.Need-returns-2
 returns-2 c =
@@ -43,7 +43,7 @@ returns-2 c =
     let n = i .before in
     let a = n .before .before .before .before .before .args in
     let k = sym (tested n) ∙ not-false _ (i .if1 .left) in
-    let w : length (a .words .now) ≡ 42 = eqb-true (length (a .words .now)) 42 (both (eqb (length (a .words .now)) 42) (nameSteps (a .steps .now)) k .0) in (
+    let w : length (a .words .now) ≡ 43 = eqb-true (length (a .words .now)) 43 (both (eqb (length (a .words .now)) 43) (nameSteps (a .steps .now)) k .0) in (
       r .run-steps .ensures .0 ∙ run-told (a .words .now) (memoryAt (a .memory .now) (a .base)) (a .steps .now) (a .answers .now) k,
       (
         run-done (a .words .now) (memoryAt (a .memory .now) (a .base)) (a .steps .now) (a .answers .now) k _ (record { count = search (needs, w); below = λ j. omega (arith, y .slice-known3 .given j) })

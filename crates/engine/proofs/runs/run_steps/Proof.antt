@@ -19,7 +19,7 @@ use Rattle.engine.proofs.runs.run_steps.Tie as tie
 
 abbrev Inv-loop : tie.InvT-loop
 Inv-loop words₀ memory base steps answers₀ held₀ remap₀ i₀ place₀ words answers held remap i place =
-    (i ≤ length steps) × (length words ≡ 42) × (length answers ≡ length answers₀) × (nameSteps (drop i steps) ≡ true) × (held ≡ canHold (stateOf words))
+    (i ≤ length steps) × (length words ≡ 43) × (length answers ≡ length answers₀) × (nameSteps (drop i steps) ≡ true) × (held ≡ canHold (stateOf words))
     × (afterAll (stateOf words) (lent (memoryAt memory base) (stepsOf (drop i steps))) ≡ afterAll (stateOf words₀) (lent (memoryAt memory base) (stepsOf steps)))
     × ((remap || anyRemaps (stateOf words) (lent (memoryAt memory base) (stepsOf (drop i steps)))) ≡ anyRemaps (stateOf words₀) (lent (memoryAt memory base) (stepsOf steps)))
     × (sets answers place (answersOf (stateOf words) (lent (memoryAt memory base) (stepsOf (drop i steps)))) ≡ sets answers₀ 0 (answersOf (stateOf words₀) (lent (memoryAt memory base) (stepsOf steps))))

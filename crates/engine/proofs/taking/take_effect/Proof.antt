@@ -16,12 +16,13 @@ returns : tie.Need-returns
 returns c =
     let t = c .before .before in
     let r = t .before .before in
-    let k = r .before in
+    let k = r .before .before in
     let b = k .before .before .before .before in
+    let w = b .args .words .now in
+    let fresh = resetState (stateOf w .pmp .grain) in
     rw (k .enum-told .given .1) (
       refl,
-      ap stateOf (t .store .ensures ∙ ap (λ (s : State). stored s (b .args .words .now)) (r .reset .ensures) ∙ all-stored (b .args .words .now) (b .pre) resetState)
-          ∙ reset-back,
+      ap stateOf (t .store .ensures ∙ ap (λ (s : State). stored s w) (r .reset .ensures) ∙ all-stored w (b .pre) fresh) ∙ reset-back (stateOf w .pmp .grain),
     )
 
 returns-2 : tie.Need-returns-2
@@ -49,6 +50,7 @@ pub take-effect-spec : {M : Type 1} → statement M
 take-effect-spec =
     tie.close
     (tie.spec
+    (λ c. search needs)
     (λ c. search needs)
     (λ c κs. search needs)
     (λ c κs. search needs)

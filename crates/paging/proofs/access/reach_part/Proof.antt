@@ -21,12 +21,12 @@ use Rattle.paging.proofs.access.reach_part.Statement.{statement}
 use Rattle.paging.proofs.access.reach_part.Tie as tie
 
 abbrev Inv-loop : tie.InvT-loop
-Inv-loop memory base context address size access cfgs addrs levels₀ place₀ levels place =
-    let pmp : Pmp = record { cfgs = cfgs; addrs = addrs } in
+Inv-loop memory base context address size access grain cfgs addrs levels₀ place₀ levels place =
+    let pmp : Pmp = record { grain = grain; cfgs = cfgs; addrs = addrs } in
     (levels ≤ 3) × (stage pmp (memoryAt memory base) context address size levels place ≡ partReached pmp (memoryAt memory base) context address size)
 
 abbrev μ-loop : tie.MeasureT-loop
-μ-loop memory base context address size access cfgs addrs levels₀ place₀ levels place = levels
+μ-loop memory base context address size access grain cfgs addrs levels₀ place₀ levels place = levels
 
 -- the decision on the access itself is what the part comes to
 ends : (c : tie.After-byte-rule Inv-loop μ-loop) (d : Decision) → c .byte-rule .result ≡ d → c .before .before .loop .levels ≡ 0

@@ -1,44 +1,15 @@
--- `pmp::entry::entry_span` meets its contract: the A field, a number below 4, picks the clause of the definition. Assumes nothing.
-use native.Mathlib.Omega.{arith}
+-- `pmp::entry::entry_span` meets its contract. Assumes nothing.
+use mathlib.Core.Path.{_∙_}
 use borrow.Author.Needs.{needs}
 use Rattle.pmp.specs.Entry.{spanOf, fieldA}
-use Rattle.pmp.proofs.EntryLaws.{span-same, field-three}
 use Rattle.pmp.proofs.entry.entry_span.Statement.{statement}
 use Rattle.pmp.proofs.entry.entry_span.Tie as tie
 
 returns : tie.Need-returns
-unfolding spanOf
-returns c = rw (c .match .keys1) (span-same (omega arith) (omega arith))
-
-returns-2 : tie.Need-returns-2
-unfolding spanOf
-returns-2 c = rw (c .before .before .match .keys2) (span-same (c .before .word-start .ensures) (c .word-start2 .ensures))
-
-returns-3 : tie.Need-returns-3
-unfolding spanOf
-returns-3 c = rw (c .before .match .keys3) (span-same (omega arith) (omega arith))
-
-returns-4 : tie.Need-returns-4
-unfolding spanOf
-returns-4 c = rw (c .before .match .keys3) (span-same (omega arith) (omega arith))
-
-returns-5 : tie.Need-returns-5
-unfolding spanOf
-returns-5 c =
-    let m = c .before .match in
-    rw (field-three (fieldA (c .before .before .args .cfg)) (m .rest .0 .0 .1) (m .rest .0 .1) (m .rest .1) (omega arith)) (c .napot-span .ensures)
+returns c =
+    let b = c .before in
+    let a = b .before .before .args in
+    c .span-of .ensures ∙ (λ j. spanOf (fieldA (a .cfg)) (b .before .address-matched .ensures j) (b .zeros-read .ensures j))
 
 pub entry-span-spec : {M : Type 1} → statement M
-entry-span-spec =
-    tie.close
-    (tie.spec
-    (λ c κs. search needs)
-    (λ c κs. search needs)
-    (λ c. search needs)
-    (λ c. search needs)
-    (λ c κs. search needs)
-    returns
-    returns-2
-    returns-3
-    returns-4
-    returns-5)
+entry-span-spec = tie.close (tie.spec (λ c κs. search needs) (λ c κs. search needs) (λ c κs. search needs) returns)

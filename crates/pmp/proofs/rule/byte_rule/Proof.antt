@@ -17,25 +17,25 @@ returns : tie.Need-returns
 returns c =
     let a = c .before .before .args in
     c .none-decides .ensures
-    ∙ sym (empty-decides (entrySpan (a .cfgs) (a .addrs)) (a .cfgs) (a .mode) (a .access) (a .address) (a .size) (c .before .if1 .taken))
+    ∙ sym (empty-decides (entrySpan (a .grain) (a .cfgs) (a .addrs)) (a .cfgs) (a .mode) (a .access) (a .address) (a .size) (c .before .if1 .taken))
 
 returns-2 : tie.Need-returns-2
 returns-2 c =
     let a = c .before .before .before .args in
     ap (λ (k : ℕ). Fault k none) (c .fault-cause .ensures)
-    ∙ sym (beyond-faults (entrySpan (a .cfgs) (a .addrs)) (a .cfgs) (a .mode) (a .access) (a .address) (a .size) (omega arith) (omega arith))
+    ∙ sym (beyond-faults (entrySpan (a .grain) (a .cfgs) (a .addrs)) (a .cfgs) (a .mode) (a .access) (a .address) (a .size) (omega arith) (omega arith))
 
 returns-3 : tie.Need-returns-3
 returns-3 c =
     let a = c .before .before .before .before .args in
     ap (λ (k : ℕ). Fault k none) (c .fault-cause2 .ensures)
-    ∙ sym (beyond-faults (entrySpan (a .cfgs) (a .addrs)) (a .cfgs) (a .mode) (a .access) (a .address) (a .size) (omega arith) (omega arith))
+    ∙ sym (beyond-faults (entrySpan (a .grain) (a .cfgs) (a .addrs)) (a .cfgs) (a .mode) (a .access) (a .address) (a .size) (omega arith) (omega arith))
 
 returns-4 : tie.Need-returns-4
 returns-4 c =
     let f = c .before .before .before in
     let a = f .before .before .before .before .args in
-    let spans = entrySpan (a .cfgs) (a .addrs) in
+    let spans = entrySpan (a .grain) (a .cfgs) (a .addrs) in
     c .none-decides2 .ensures
     ∙ unfound-decides spans (a .cfgs) (a .mode) (a .access) (a .address) (a .size) (f .lowest-match .result .entry) (f .lowest-match .ensures .0)
     (c .before .if4 .taken)
@@ -47,7 +47,7 @@ returns-5 c =
     let f = e .before .before in
     let a = f .before .before .before .before .args in
     let found = f .lowest-match .result in
-    let spans = entrySpan (a .cfgs) (a .addrs) in
+    let spans = entrySpan (a .grain) (a .cfgs) (a .addrs) in
     let known = f .lowest-match .ensures .1 (e .if4 .left) in
     c .match-decides .ensures
     ∙ ap (λ (cfg : ℕ).

@@ -10,7 +10,7 @@ use borrow.Author.Needs.{needs}
 use lib.ListN.{getD}
 use Rattle.pmp.specs.declared.Span.{Span}
 use Rattle.pmp.specs.Search.{anyByte, lowest}
-use Rattle.pmp.specs.Entry.{spanOf, fieldA, addressBefore, entrySpan, contains, matches}
+use Rattle.pmp.specs.Entry.{spanRead, fieldA, addressBefore, entrySpan, contains, matches}
 use Rattle.pmp.specs.Rule.{lowestMatch}
 use Rattle.pmp.proofs.SearchLaws.{any-start, any-next, any-found, any-end, lowest-next, lowest-found, lowest-end}
 use Rattle.pmp.proofs.EntryLaws.{overlaps, contains-none}
@@ -22,19 +22,19 @@ abbrev some : (ℕ → Span) → ℕ → ℕ → ℕ → Bool
 some spans address size i = anyByte (matches spans i) size address
 
 abbrev Inv-loop : tie.InvT-loop
-Inv-loop address size cfgs addrs entry before addr cfg span byte₀ byte =
+Inv-loop grain address size cfgs addrs entry before addr cfg span byte₀ byte =
     (byte ≤ size) × (anyByte (contains span) size address ≡ anyByte (contains span) (size - byte) (address + byte))
 
 abbrev μ-loop : tie.MeasureT-loop
-μ-loop address size cfgs addrs entry before addr cfg span byte₀ byte = size - byte
+μ-loop grain address size cfgs addrs entry before addr cfg span byte₀ byte = size - byte
 
 abbrev Inv-search : tie.InvT-search
-Inv-search address size cfgs addrs entry₀ before₀ entry before =
+Inv-search grain address size cfgs addrs entry₀ before₀ entry before =
     (entry ≤ 16) × (before ≡ addressBefore addrs entry)
-    × (lowestMatch (entrySpan cfgs addrs) address size ≡ lowest (some (entrySpan cfgs addrs) address size) (16 - entry) entry)
+    × (lowestMatch (entrySpan grain cfgs addrs) address size ≡ lowest (some (entrySpan grain cfgs addrs) address size) (16 - entry) entry)
 
 abbrev μ-search : tie.MeasureT-search
-μ-search address size cfgs addrs entry₀ before₀ entry before = 16 - entry
+μ-search grain address size cfgs addrs entry₀ before₀ entry before = 16 - entry
 
 search-holds : tie.Need-search-holds Inv-loop μ-loop Inv-search μ-search
 unfolding lowestMatch
@@ -45,15 +45,15 @@ loop-holds c = (omega arith, any-start _ _ _)
 
 -- the span that is looked at is the entry's
 own-span : (c : tie.Else1 Inv-loop μ-loop Inv-search μ-search) → let e = c .before in let a = e .before .args in
-    spanOf (fieldA (getD (a .t1) (e .search .entry) 0)) (getD (a .t2) (e .search .entry) 0) (e .search .before)
-    ≡ entrySpan (a .t1) (a .t2) (e .search .entry)
+    spanRead (a .grain) (fieldA (getD (a .t2) (e .search .entry) 0)) (getD (a .t3) (e .search .entry) 0) (e .search .before)
+    ≡ entrySpan (a .grain) (a .t2) (a .t3) (e .search .entry)
 own-span c =
     let e = c .before in
     let a = e .before .args in
-    ap (spanOf (fieldA (getD (a .t1) (e .search .entry) 0)) (getD (a .t2) (e .search .entry) 0)) (e .search .inv .1)
+    ap (spanRead (a .grain) (fieldA (getD (a .t2) (e .search .entry) 0)) (getD (a .t3) (e .search .entry) 0)) (e .search .inv .1)
 
 span-is : (c : tie.Then2 Inv-loop μ-loop Inv-search μ-search) → let e = c .before .before .before in let a = e .before .args in
-    c .before .overlapping .result .span ≡ entrySpan (a .t1) (a .t2) (e .search .entry)
+    c .before .overlapping .result .span ≡ entrySpan (a .grain) (a .t2) (a .t3) (e .search .entry)
 span-is c = c .before .overlapping .ensures .1 (c .if2 .taken) ∙ own-span (c .before .before)
 
 loop-again : tie.Need-loop-again Inv-loop μ-loop Inv-search μ-search
@@ -73,7 +73,7 @@ search-again c =
     let e = t .before .before .search in
     let a = t .before .before .before .args in
     let own = own-span (t .before) in
-    let spans = entrySpan (a .t1) (a .t2) in
+    let spans = entrySpan (a .grain) (a .t2) (a .t3) in
     let missed : anyByte (contains (spans (e .entry))) (a .size) (a .address) ≡ false =
     ⊎-elim
     (λ w.
@@ -93,7 +93,7 @@ returns : tie.Need-returns Inv-loop μ-loop Inv-search μ-search
 returns c =
     let a = c .before .before .args in
     let e = c .before .search in
-    (sym (e .inv .2 ∙ lowest-end (some (entrySpan (a .t1) (a .t2)) (a .address) (a .size)) 16 (e .entry) (c .if1 .taken)), λ h. absurd (omega arith))
+    (sym (e .inv .2 ∙ lowest-end (some (entrySpan (a .grain) (a .t2) (a .t3)) (a .address) (a .size)) 16 (e .entry) (c .if1 .taken)), λ h. absurd (omega arith))
 
 returns-2 : tie.Need-returns-2 Inv-loop μ-loop Inv-search μ-search
 returns-2 c =
@@ -103,7 +103,7 @@ returns-2 c =
     let a = t .before .before .before .before .args in (
       sym
           (e .inv .2
-          ∙ lowest-found (some (entrySpan (a .t1) (a .t2)) (a .address) (a .size)) 16 (e .entry) (omega arith)
+          ∙ lowest-found (some (entrySpan (a .grain) (a .t2) (a .t3)) (a .address) (a .size)) 16 (e .entry) (omega arith)
           (sym (ap (λ (r : Span). anyByte (contains r) (a .size) (a .address)) (span-is t))
           ∙ l .inv .1
           ∙ any-found (contains (t .before .overlapping .result .span)) (a .size) (a .address) (l .byte) (c .before .before .loop-test .taken)

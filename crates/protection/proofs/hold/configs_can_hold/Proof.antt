@@ -10,7 +10,7 @@ unfolding configsOf
 returns c =
     let p = c .before in
     let a = p .before .args in
-    rw (all-append configHoldable (unpacked 8 (a .low)) (unpacked 8 (a .high)), p .word-can-hold .ensures, c .word-can-hold2 .ensures)
+    rw (all-append (configHoldable (a .grain)) (unpacked 8 (a .low)) (unpacked 8 (a .high)), p .word-can-hold .ensures, c .word-can-hold2 .ensures)
 
 pub configs-can-hold-spec : {M : Type 1} → statement M
 configs-can-hold-spec = tie.close (tie.spec (λ c κs. search needs) (λ c κs. search needs) returns)

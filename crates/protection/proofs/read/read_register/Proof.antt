@@ -12,10 +12,11 @@ returns-2 c = rw (c .before .match .keys2, c .pmpcfg2 .ensures)
 
 returns-3 : tie.Need-returns-3
 returns-3 c =
-    let m = c .before .before in
+    let e = c .before .before in
+    let m = e .before in
     let r = m .match .rest in
     let n = m .before .before .before .args .number in
-    rw (ne-eqb n 0x3A0 (r .0 .1), ne-eqb n 0x3A2 (r .1), le-leb 0x3B0 n (c .before .if1 .left), le-leb n 0x3BF (omega arith))
+    rw (ne-eqb n 0x3A0 (r .0 .1), ne-eqb n 0x3A2 (r .1), le-leb 0x3B0 n (e .if1 .left), le-leb n 0x3BF (omega arith)) (c .address-read .ensures)
 
 returns-4 : tie.Need-returns-4
 returns-4 c =
@@ -37,6 +38,8 @@ read-register-spec =
     (λ c κs. search needs)
     (λ c. search needs)
     (λ c. search needs)
+    (λ c. search needs)
+    (λ c κs. search needs)
     returns
     returns-2
     returns-3

@@ -26,10 +26,11 @@ loop-again c =
 
 returns : tie.Need-returns Inv-loop μ-loop
 returns c =
-    let e = c .before .before .before in
+    let s = c .before in
+    let e = s .before .before .before in
     let l = e .before .loop in
     let a = e .before .before .before .args in
-    rw (c .configs-of .ensures, sym (sym (copy-end (l .addrs) (a .words .now) (l .i) (25 + l .i) (omega arith)) ∙ l .inv .1))
+    rw (s .configs-of .ensures, sym (sym (copy-end (l .addrs) (a .words .now) (l .i) (25 + l .i) (omega arith)) ∙ l .inv .1))
 
 pub pmp-at-spec : {M : Type 1} → statement M
 pmp-at-spec =
@@ -49,4 +50,5 @@ pmp-at-spec =
     (λ c. search needs)
     (λ c. search needs)
     (λ c κs. search needs)
+    (λ c. search needs)
     returns)

@@ -11,7 +11,7 @@ use Rattle.state.proofs.words.put_pmp.Tie as tie
 
 abbrev Inv-loop : tie.InvT-loop
 Inv-loop words₀ addrs i₀ words i =
-    (i ≤ 16) × (length words ≡ 42) × (sets words (25 + i) (elements (16 - i) i addrs) ≡ sets words₀ 25 (elements 16 0 addrs))
+    (i ≤ 16) × (length words ≡ 43) × (sets words (25 + i) (elements (16 - i) i addrs) ≡ sets words₀ 25 (elements 16 0 addrs))
 
 abbrev μ-loop : tie.MeasureT-loop
 μ-loop words₀ addrs i₀ words i = 16 - i
@@ -41,6 +41,7 @@ put-pmp-spec =
     (tie.spec
     Inv-loop
     μ-loop
+    (λ c. search needs)
     (λ c κs. search needs)
     (λ c. search needs)
     (λ c κs. search needs)

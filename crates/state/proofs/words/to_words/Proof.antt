@@ -11,7 +11,7 @@ returns c =
     let s = c .before in
     let t = s .before .before in
     let a = t .before .before .args in
-    let e = s .store .ensures ∙ all-stored (replicate 42 0) refl (a .state) in
+    let e = s .store .ensures ∙ all-stored (replicate 43 0) refl (a .state) in
     (e, words-state (a .state) (t .typed .ensures) e)
 
 pub to-words-spec : {M : Type 1} → statement M

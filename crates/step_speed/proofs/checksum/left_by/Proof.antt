@@ -5,10 +5,10 @@ use Rattle.step_speed.proofs.checksum.left_by.Statement.{statement}
 use Rattle.step_speed.proofs.checksum.left_by.Tie as tie
 
 abbrev Inv-loop : tie.InvT-loop
-Inv-loop start map words sum₀ i₀ sum i = i ≤ 42
+Inv-loop start map words sum₀ i₀ sum i = i ≤ 43
 
 abbrev μ-loop : tie.MeasureT-loop
-μ-loop start map words sum₀ i₀ sum i = 42 - i
+μ-loop start map words sum₀ i₀ sum i = 43 - i
 
 abbrev Inv-loop2 : tie.InvT-loop2
 Inv-loop2 start map sum₀ i n k₀ sum k = (k ≤ n) × (n ≤ 33)
