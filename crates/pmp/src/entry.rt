@@ -45,7 +45,7 @@ pub(crate) fn napot_span(addr: u64) -> Span
     }
 }
 
-// The bytes of an entry, from its configuration byte, what its address register reads and TOR's lower bound.
+// The bytes of an entry, from its configuration byte, the address by which it matches and TOR's lower bound.
 fn span_of(cfg: u8, addr: u64, before: u64) -> Span
     ensures { λ r. ⌜ r ≡ spanOf (fieldA cfg) addr before ⌝ }
 {
