@@ -1,3 +1,2 @@
 -- The laws that the proofs and the crates above cite.
-pub mod Form
-pub mod Laws
+pub mod Template

@@ -1,4 +1,4 @@
-use Rattle.text.proofs.Form.{line-ordered, lines-more, lines-all}
+use Rattle.text.proofs.Template.{line-ordered, lines-more, lines-all}
 use Rattle.text.specs.Forms.{inOrder, linesBy}
 use Rattle.lines.specs.Fields.{allOk, wordsRead}
 use Prim.Native.Nat.{_+_, _-_, _≤_}
