@@ -61,7 +61,7 @@ unfolding bytesOf firstKeys keysOf linesLength
 keys-length First = refl
 keys-length Second = refl
 
-head-length : (form : Form) → length (headOf form) ≡ headLength form
+pub head-length : (form : Form) → length (headOf form) ≡ headLength form
 unfolding bytesOf headOf lineOf hexDigits
 head-length First = refl
 head-length Second = refl

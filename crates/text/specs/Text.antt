@@ -12,6 +12,10 @@ use Rattle.text.specs.declared.Form.{Form}
 use Rattle.text.specs.declared.Form.the-variants.{First, Second}
 use Rattle.text.specs.declared.Reading.{Reading}
 
+abbrev pub other : Form → Form
+other First = Second
+other Second = First
+
 -- 01's 41 lines, in this order
 unfoldable pub firstKeys : List String
 firstKeys =
