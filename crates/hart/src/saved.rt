@@ -1,63 +1,117 @@
-// Saving a hart as a text, and reading a text back.
+// Saving a hart as a text, reading a text back, and converting a text to the other form.
 use crate::Hart;
 use crate::Stepped;
 use crate::stepping::map_for;
 use map::Map;
+use state::State;
 use steps::Answer;
+use text::Form;
 ghost use mathlib.Core.Path.{_≡_};
 ghost use Rattle.steps.specs.Number.{answerNumbers};
-ghost use Rattle.hart.specs.Saved.{savedAnswer, savedNumbers, savedBuffer, restored, restoredNumbers};
+ghost use Rattle.text.specs.Text.{other};
+ghost use Rattle.hart.specs.Saved.{formHolds, stateIn, byText, savedAnswer, savedNumbers, savedBuffer, restored, restoredNumbers};
+ghost use Rattle.hart.specs.Saved.{convertedAnswer, convertedNumbers, convertedBuffer};
+
+// The state in a text, and refusal 4 or 5, or 0.
+struct Read {
+    state: State,
+    refusal: u64,
+}
+
+// Whether a text of the form can hold the state.
+fn form_holds(form: Form, state: State) -> bool
+    ensures { λ r. ⌜ r ≡ formHolds form state ⌝ }
+{
+    match form {
+        Form::First => state::first_form_holds(state),
+        Form::Second => true,
+    }
+}
+
+fn other_form(form: Form) -> Form
+    ensures { λ r. ⌜ r ≡ other form ⌝ }
+{
+    match form {
+        Form::First => Form::Second,
+        Form::Second => Form::First,
+    }
+}
+
+fn read_state(form: Form, text: &[u8]) -> Read
+    ensures { λ r. ⌜ r .state ≡ stateIn form (now (text .entry)) ⌝ }
+    ensures { λ r. ⌜ r .refusal ≡ byText form (now (text .entry)) (λ n. n) (λ s. 0) ⌝ }
+{
+    let reading = text::read(form, text);
+    let words = reading.words;
+    let state = state::of_words(words);
+    if !reading.ok {
+        return Read { state, refusal: 4 };
+    }
+    if !(state::can_hold(state) & form_holds(form, state)) {
+        return Read { state, refusal: 5 };
+    }
+    Read { state, refusal: 0 }
+}
 
 impl Hart {
-    // Writes the hart's text to the front of a buffer. A refused save leaves the buffer as it was.
-    pub fn save(self, buffer: &mut [u8]) -> Answer
-        ensures { λ r. ⌜ r ≡ savedAnswer self (now (buffer .entry)) ⌝ }
-        ensures { λ r. ⌜ answerNumbers r ≡ savedNumbers self (now (buffer .entry)) ⌝ }
-        ensures { λ _. ⌜ now (buffer .exit) ≡ savedBuffer self (now (buffer .entry)) ⌝ }
+    // Writes the hart's text in a form to the front of a buffer. A refused save leaves the buffer as it was.
+    pub fn save(self, form: Form, buffer: &mut [u8]) -> Answer
+        ensures { λ r. ⌜ r ≡ savedAnswer form self (now (buffer .entry)) ⌝ }
+        ensures { λ r. ⌜ answerNumbers r ≡ savedNumbers form self (now (buffer .entry)) ⌝ }
+        ensures { λ _. ⌜ now (buffer .exit) ≡ savedBuffer form self (now (buffer .entry)) ⌝ }
     {
         if !self.can_hold() {
             return Answer::Refused(3);
         }
-        if buffer.len() < 1027 {
+        if buffer.len() < text::text_length(form) {
             return Answer::Refused(6);
         }
         let state = self.state;
-        if !state::has_text(state) {
+        if !form_holds(form, state) {
             return Answer::Refused(12);
         }
-        text::write(state::to_text_words(state), buffer);
+        text::write(form, state::to_words(state), buffer);
         Answer::Done
     }
 
-    // Reads a text back: its hart, with the map compiled for it. A refused text hands back the hart and map that were given.
-    pub fn restore(self, map: Map, text: &[u8]) -> Stepped
-        ensures { λ r. ⌜ r ≡ restored self map (now (text .entry)) ⌝ }
-        ensures { λ r. ⌜ answerNumbers (r .answer) ≡ restoredNumbers self map (now (text .entry)) ⌝ }
+    // Reads a text of a form back: its hart, with the map compiled for it. A refused text hands back the hart and map that were given.
+    pub fn restore(self, map: Map, form: Form, text: &[u8]) -> Stepped
+        ensures { λ r. ⌜ r ≡ restored form self map (now (text .entry)) ⌝ }
+        ensures { λ r. ⌜ answerNumbers (r .answer) ≡ restoredNumbers form self map (now (text .entry)) ⌝ }
     {
-        let reading = text::read(text);
-        if !reading.ok {
+        let read = read_state(form, text);
+        let refusal = read.refusal;
+        if refusal != 0 {
             return Stepped {
                 hart: self,
                 map,
-                answer: Answer::Refused(4),
+                answer: Answer::Refused(refusal),
             };
         }
-        let words = reading.words;
-        let state = state::of_text_words(words);
-        let hart = Hart { state };
-        if !(hart.can_hold() & state::has_text(state)) {
-            return Stepped {
-                hart: self,
-                map,
-                answer: Answer::Refused(5),
-            };
-        }
+        let state = read.state;
         let pmp = state.pmp;
         let fresh = map_for(pmp);
+        let hart = Hart { state };
         Stepped {
             hart,
             map: fresh,
             answer: Answer::Done,
         }
     }
+}
+
+// Reads a text of the other form, and writes its hart's text in the form asked for to the front of a buffer. A refusal leaves the buffer as it was.
+pub fn convert(to: Form, text: &[u8], buffer: &mut [u8]) -> Answer
+    ensures { λ r. ⌜ r ≡ convertedAnswer to (now (text .entry)) (now (buffer .entry)) ⌝ }
+    ensures { λ r. ⌜ answerNumbers r ≡ convertedNumbers to (now (text .entry)) (now (buffer .entry)) ⌝ }
+    ensures { λ _. ⌜ now (buffer .exit) ≡ convertedBuffer to (now (text .entry)) (now (buffer .entry)) ⌝ }
+{
+    let read = read_state(other_form(to), text);
+    let refusal = read.refusal;
+    if refusal != 0 {
+        return Answer::Refused(refusal);
+    }
+    let state = read.state;
+    let hart = Hart { state };
+    hart.save(to, buffer)
 }

@@ -37,7 +37,7 @@ returns-2 c =
     let room : lengthOf (a .form) ≤ length (a .buffer .now) = rw n at (e .if1 .left) in (
       sym (le-leb (lengthOf (a .form)) (length (a .buffer .now)) room),
       text-copied (a .form) (a .words) (a .buffer .now) (f .filled .result) (k .copy .last .1 .0) (h .head-length .ensures .0) n (e .if1 .left)
-      (f .filled .ensures) (k .copy .ensures .1),
+          (f .filled .ensures) (k .copy .ensures .1),
     )
 
 pub write-spec : {M : Type 1} → statement M
