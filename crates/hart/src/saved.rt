@@ -9,14 +9,8 @@ use text::Form;
 ghost use mathlib.Core.Path.{_≡_};
 ghost use Rattle.steps.specs.Number.{answerNumbers};
 ghost use Rattle.text.specs.Text.{other};
-ghost use Rattle.hart.specs.Saved.{formHolds, stateIn, byText, savedAnswer, savedNumbers, savedBuffer, restored, restoredNumbers};
+ghost use Rattle.hart.specs.Saved.{formHolds, savedAnswer, savedNumbers, savedBuffer, restored, restoredNumbers};
 ghost use Rattle.hart.specs.Saved.{convertedAnswer, convertedNumbers, convertedBuffer};
-
-// The state in a text, and refusal 4 or 5, or 0.
-struct Read {
-    state: State,
-    refusal: u64,
-}
 
 // Whether a text of the form can hold the state.
 fn form_holds(form: Form, state: State) -> bool
@@ -35,22 +29,6 @@ fn other_form(form: Form) -> Form
         Form::First => Form::Second,
         Form::Second => Form::First,
     }
-}
-
-fn read_state(form: Form, text: &[u8]) -> Read
-    ensures { λ r. ⌜ r .state ≡ stateIn form (now (text .entry)) ⌝ }
-    ensures { λ r. ⌜ r .refusal ≡ byText form (now (text .entry)) (λ n. n) (λ s. 0) ⌝ }
-{
-    let reading = text::read(form, text);
-    let words = reading.words;
-    let state = state::of_words(words);
-    if !reading.ok {
-        return Read { state, refusal: 4 };
-    }
-    if !(state::can_hold(state) & form_holds(form, state)) {
-        return Read { state, refusal: 5 };
-    }
-    Read { state, refusal: 0 }
 }
 
 impl Hart {
@@ -79,16 +57,23 @@ impl Hart {
         ensures { λ r. ⌜ r ≡ restored form self map (now (text .entry)) ⌝ }
         ensures { λ r. ⌜ answerNumbers (r .answer) ≡ restoredNumbers form self map (now (text .entry)) ⌝ }
     {
-        let read = read_state(form, text);
-        let refusal = read.refusal;
-        if refusal != 0 {
+        let reading = text::read(form, text);
+        if !reading.ok {
             return Stepped {
                 hart: self,
                 map,
-                answer: Answer::Refused(refusal),
+                answer: Answer::Refused(4),
             };
         }
-        let state = read.state;
+        let words = reading.words;
+        let state = state::of_words(words);
+        if !(state::words_can_hold(&words) & form_holds(form, state)) {
+            return Stepped {
+                hart: self,
+                map,
+                answer: Answer::Refused(5),
+            };
+        }
         let pmp = state.pmp;
         let fresh = map_for(pmp);
         let hart = Hart { state };
@@ -100,18 +85,29 @@ impl Hart {
     }
 }
 
-// Reads a text of the other form, and writes its hart's text in the form asked for to the front of a buffer. A refusal leaves the buffer as it was.
+// Reads a text of the other form, and writes its hart's text in the form asked for to the front of a buffer. A refusal leaves the buffer as it was. It
+// calls neither `restore`, as no map is wanted, nor `save`, which with one caller in a program is compiled in line there.
 pub fn convert(to: Form, text: &[u8], buffer: &mut [u8]) -> Answer
     ensures { λ r. ⌜ r ≡ convertedAnswer to (now (text .entry)) (now (buffer .entry)) ⌝ }
     ensures { λ r. ⌜ answerNumbers r ≡ convertedNumbers to (now (text .entry)) (now (buffer .entry)) ⌝ }
     ensures { λ _. ⌜ now (buffer .exit) ≡ convertedBuffer to (now (text .entry)) (now (buffer .entry)) ⌝ }
 {
-    let read = read_state(other_form(to), text);
-    let refusal = read.refusal;
-    if refusal != 0 {
-        return Answer::Refused(refusal);
+    let from = other_form(to);
+    let reading = text::read(from, text);
+    if !reading.ok {
+        return Answer::Refused(4);
     }
-    let state = read.state;
-    let hart = Hart { state };
-    hart.save(to, buffer)
+    let words = reading.words;
+    let state = state::of_words(words);
+    if !(state::words_can_hold(&words) & form_holds(from, state)) {
+        return Answer::Refused(5);
+    }
+    if buffer.len() < text::text_length(to) {
+        return Answer::Refused(6);
+    }
+    if !form_holds(to, state) {
+        return Answer::Refused(12);
+    }
+    text::write(to, words, buffer);
+    Answer::Done
 }

@@ -1,11 +1,13 @@
 use Prim.Native.Nat.{ℕ}
-use mathlib.Core.Path.{_≡_, ap, _∙_}
+use mathlib.Core.Path.{_≡_, refl, ap, _∙_}
+use mathlib.Core.Bool.{Bool, true, false, cond, _&&_}
+use borrow.Author.Tests.{not-true, not-false}
 use Rattle.steps.specs.declared.Answer.the-variants.{Done, Refused}
 use Rattle.map.specs.declared.Map.{Map}
 use Rattle.hart.specs.Steps.{hartWith, handedBack}
 use Rattle.hart.specs.Saved.{restoredDone, restored}
 use Rattle.hart.proofs.Numbered.{numbered}
-use Rattle.hart.proofs.SavedLaws.{text-taken, text-refused}
+use Rattle.hart.proofs.SavedLaws.{text-unformed, text-judged, words-judged}
 use borrow.Author.Needs.{needs}
 use Rattle.hart.proofs.Hart.restore.Statement.{statement}
 use Rattle.hart.proofs.Hart.restore.Tie as tie
@@ -13,19 +15,36 @@ use Rattle.hart.proofs.Hart.restore.Tie as tie
 returns : tie.Need-returns
 unfolding restored
 returns c =
-    let r = c .before in
-    let a = r .before .before .args in
-    numbered (text-refused (a .form) (a .text .now) (λ n. handedBack (a .self) (a .map) (Refused n)) restoredDone (r .read-state .ensures .1) (c .if1 .taken))
+    let d = c .before .before in
+    let a = d .before .before .args in
+    numbered
+    (text-unformed (a .form) (a .text .now) (λ n. handedBack (a .self) (a .map) (Refused n)) restoredDone (d .read .ensures) (not-true _ (c .if1 .taken)))
+
+-- what is known once the state of the text's words has been judged
+judged : (c : tie.After-form-holds) (held : Bool) → (c .before .words-can-hold .result && c .form-holds .result) ≡ held →
+    let s = c .before .before .before in
+    let a = s .before .before .before .before .before .before .args in
+    cond held (restoredDone (s .of-words .result)) (handedBack (a .self) (a .map) (Refused 5)) ≡ restored (a .form) (a .self) (a .map) (a .text .now)
+unfolding restored
+judged c held h =
+    let k = c .before in
+    let s = k .before .before in
+    let e = s .before .before in
+    let d = e .before .before in
+    let a = d .before .before .args in
+    let o = not-false _ (e .if1 .left) in
+    text-judged (a .form) (a .text .now) (λ n. handedBack (a .self) (a .map) (Refused n)) restoredDone (d .read .ensures) held o (s .of-words .ensures)
+    (words-judged (a .form) (a .text .now) (d .read .ensures) o (s .of-words .ensures) (k .words-can-hold .ensures) (c .form-holds .ensures) ∙ h)
 
 returns-2 : tie.Need-returns-2
-unfolding restored
-returns-2 c =
-    let e = c .before .before .before in
-    let r = e .before in
-    let a = r .before .before .args in
+returns-2 c = numbered (judged (c .before) false (not-true _ (c .if2 .taken)))
+
+returns-3 : tie.Need-returns-3
+returns-3 c =
+    let f = c .before .before in
     numbered
-    (ap (λ (m : Map). handedBack (hartWith (r .read-state .result .state)) m Done) (c .map-for .ensures)
-    ∙ text-taken (a .form) (a .text .now) (λ n. handedBack (a .self) (a .map) (Refused n)) restoredDone (r .read-state .ensures .1) (r .read-state .ensures .0) (e .if1 .left))
+    (ap (λ (m : Map). handedBack (hartWith (f .before .before .before .before .of-words .result)) m Done) (c .map-for .ensures)
+    ∙ judged (f .before) true (not-false _ (f .if2 .left)))
 
 pub restore-spec : {M : Type 1} → statement M
 restore-spec =
@@ -34,4 +53,9 @@ restore-spec =
     (λ c κs. search needs)
     returns
     (λ c κs. search needs)
-    returns-2)
+    (λ c. search needs)
+    (λ c κs. search needs)
+    (λ c κs. search needs)
+    returns-2
+    (λ c κs. search needs)
+    returns-3)
