@@ -73,6 +73,9 @@ module _ (form : Form) (text : List ℕ) {r : Reading} {s : State} (e : r ≡ re
   words : Words 43 (r .words)
   words = read-words form text (r .words) (sym e ∙ ap (λ (k : Bool). record { ok = k; words = r .words }) o)
 
+  pub words-count : length (r .words) ≡ 43
+  words-count = words .count
+
   -- are those of its state
   pub words-are : r .words ≡ wordsOf s
   words-are = sym (words-back (r .words) words) ∙ ap wordsOf (sym d)

@@ -38,17 +38,18 @@ impl Hart {
         ensures { λ r. ⌜ answerNumbers r ≡ savedNumbers form self (now (buffer .entry)) ⌝ }
         ensures { λ _. ⌜ now (buffer .exit) ≡ savedBuffer form self (now (buffer .entry)) ⌝ }
     {
-        if !self.can_hold() {
+        let state = self.state;
+        let words = state::to_words(state);
+        if !state::words_can_hold(&words) {
             return Answer::Refused(3);
         }
         if buffer.len() < text::text_length(form) {
             return Answer::Refused(6);
         }
-        let state = self.state;
         if !form_holds(form, state) {
             return Answer::Refused(12);
         }
-        text::write(form, state::to_words(state), buffer);
+        text::write(form, &words, buffer);
         Answer::Done
     }
 
@@ -108,6 +109,6 @@ pub fn convert(to: Form, text: &[u8], buffer: &mut [u8]) -> Answer
     if !form_holds(to, state) {
         return Answer::Refused(12);
     }
-    text::write(to, words, buffer);
+    text::write(to, &words, buffer);
     Answer::Done
 }

@@ -14,10 +14,14 @@ use Rattle.lines.proofs.Back.{words-found, words-back}
 use Rattle.text.specs.declared.Form.{Form}
 use Rattle.text.specs.declared.Form.the-variants.{First, Second}
 use Rattle.text.specs.declared.Reading.{Reading}
-use Rattle.text.specs.Text.{other, firstKeys, keysOf, headOf, textOf, lengthOf, headLength, lineCount, completed, wordsOfText, isTextOf, readAs, noText, readText, withLines}
+use Rattle.text.specs.Text.{other, firstKeys, keysOf, headOf, textOf, lengthOf, headLength, lineCount, completed, wordsOfText, isTextOf, readAs, noText, readText}
 use Rattle.text.proofs.Template.{head-length, text-length, length-unread}
 
 -- ---- words, and those of them that a form has lines for
+
+-- 43 words with zeros for those that the form has no line for
+abbrev pub withLines : Form → List ℕ → List ℕ
+withLines form ws = completed form (elements (lineCount form) 0 ws)
 
 elements-below : (n i : ℕ) (l : List ℕ) → ((k : ℕ) → getD l k 0 < 2 ^ 64) → (k : ℕ) → getD (elements n i l) k 0 < 2 ^ 64
 unfolding elements
@@ -37,25 +41,25 @@ module _ (ws : List ℕ) where
   lines-spelt Second = refl
 
   text-spelt : (form : Form) → textOf form (withLines form ws) ≡ textOf form ws
-  unfolding bytesOf firstKeys keysOf linesOf textOf completed withLines elements
+  unfolding bytesOf firstKeys keysOf linesOf textOf completed elements
   text-spelt First = refl
   text-spelt Second = refl
 
   -- the second form has a line for every word
   pub all-lines : length ws ≡ 43 → withLines Second ws ≡ ws
-  unfolding withLines completed
+  unfolding completed
   all-lines n = elements-are ws 43 0 n
 
   -- the first has none for the last two
   pub first-lines : length ws ≡ 43 → getD ws 41 0 ≡ 0 → getD ws 42 0 ≡ 0 → withLines First ws ≡ ws
-  unfolding withLines completed elements
+  unfolding completed elements
   first-lines n e d = (λ j. elements 41 0 ws ++ sym e j ∷ sym d j ∷ []) ∙ elements-are ws 43 0 n
 
 -- ---- texts
 
 module _ (form : Form) where
   words-in : (ws : List ℕ) → Words 43 ws → wordsOfText form (textOf form ws) ≡ withLines form ws
-  unfolding wordsOfText textOf withLines
+  unfolding wordsOfText textOf
   words-in ws w =
       let e : drop (headLength form) (headOf form ++ linesOf (keysOf form) 0 ws) ≡ linesOf (keysOf form) 0 ws =
       ap (λ (n : ℕ). drop n (headOf form ++ linesOf (keysOf form) 0 ws)) (sym (head-length form)) ∙ drop-append-seam (headOf form) (linesOf (keysOf form) 0 ws) in

@@ -2,14 +2,13 @@
 use Prim.Native.Nat.{ℕ, _+_, _-_, _≤_, _<_}
 use mathlib.Core.Path.{_≡_, refl, sym, ap, _∙_}
 use mathlib.Core.Bool.{Bool, true, false, cond, _&&_, and-assoc, and-true}
-use mathlib.Core.List.{List, [], _∷_, _++_}
+use mathlib.Core.List.{List, [], _∷_, _++_, append-assoc}
 use native.Mathlib.Omega.{arith}
 use native.Mathlib.Numerals.{add-one}
 use borrow.Author.Tests.{le-leb, leb-true}
 use lib.Dec.{leb}
 use lib.ListN.{length, getD, take, drop, replicate, set, drop-of-length-le, length-append, length-drop}
-use lib.Seq.{sets, take-length}
-use Rattle.bits.specs.Lists.{elements}
+use lib.Seq.{sets, take-length, take-at, drop-at}
 use Rattle.lines.specs.Lines.{bytesOf, hexDigits, lineOf, linesOf, linesLength, placesOf, wordsIn, isText}
 use Rattle.lines.specs.Places.{withWord, withWords}
 use Rattle.lines.specs.declared.Field.{Field}
@@ -20,7 +19,7 @@ use Rattle.lines.proofs.Back.{from-place}
 use Rattle.lines.proofs.Reading.{head-same, lines-length, text-judged, words-judged}
 use Rattle.text.specs.declared.Form.{Form}
 use Rattle.text.specs.declared.Form.the-variants.{First, Second}
-use Rattle.text.specs.Text.{firstKeys, keysOf, headOf, textOf, lengthOf, headLength, lineCount, writtenTo, completed, wordsOfText, isTextOf, readAs, noText, readText, withLines}
+use Rattle.text.specs.Text.{firstKeys, keysOf, headOf, textOf, lengthOf, headLength, lineCount, writtenTo, completed, wordsOfText, isTextOf, readAs, noText, readText}
 use Rattle.text.specs.Forms.{inOrder, linesBy}
 
 -- the places of the digits that a form has, behind the head
@@ -31,30 +30,32 @@ placesIn form = placesOf (keysOf form) 0
 abbrev pub zeroLines : List ℕ
 zeroLines = linesOf (keysOf Second) 0 []
 
+places-part : (form : Form) → take (lineCount form - 0) (placesIn Second) ≡ placesIn form
+unfolding bytesOf firstKeys keysOf placesOf
+places-part First = refl
+places-part Second = refl
+
+pub places-taken : (form : Form) {n : ℕ} → n ≡ lineCount form → take (n - 0) (placesIn Second) ≡ placesIn form
+places-taken form e = ap (λ (k : ℕ). take (k - 0) (placesIn Second)) e ∙ places-part form
+
 -- ---- writing
 
--- the text of zeros with the words at their places
-pub lines-filled : (form : Form) (ws : List ℕ) → headOf Second ++ withWords (placesIn form) 0 ws zeroLines ≡ textOf Second (withLines form ws)
-unfolding bytesOf firstKeys keysOf headOf hexDigits lineOf linesOf textOf placesOf withWord withWords completed withLines elements
+-- the lines of zeros with the words at their places are the lines of the words
+pub lines-filled : (form : Form) (ws : List ℕ) → withWords (placesIn form) 0 ws (linesOf (keysOf form) 0 []) ≡ linesOf (keysOf form) 0 ws
+unfolding bytesOf firstKeys keysOf hexDigits lineOf linesOf placesOf withWord withWords
 lines-filled First ws = refl
 lines-filled Second ws = refl
 
--- a form's text is a part of it
-pub text-part : (form : Form) (ws : List ℕ) → take (lengthOf form) (drop (22 - headLength form) (textOf Second (withLines form ws))) ≡ textOf form ws
-unfolding bytesOf firstKeys keysOf headOf hexDigits lineOf linesOf textOf completed withLines elements
-text-part First ws = refl
-text-part Second ws = refl
+-- a form's text of zeros is a part of the second form's
+zeros-part : (form : Form) → take (lengthOf form) (drop (22 - headLength form) (textOf Second [])) ≡ textOf form []
+unfolding bytesOf firstKeys keysOf headOf hexDigits lineOf linesOf textOf
+zeros-part First = refl
+zeros-part Second = refl
 
--- that part lies within it, and has the form's length
+-- that part lies within it
 pub part-within : (form : Form) → 22 - headLength form + lengthOf form ≤ 1094
 part-within First = omega arith
 part-within Second = omega arith
-
-part-taken : (form : Form) (t : List ℕ) {n s : ℕ} → n ≡ headLength form → s ≡ lengthOf form
-    → take (22 - n + s - (22 - n)) (drop (22 - n) t) ≡ take (lengthOf form) (drop (22 - headLength form) t)
-part-taken form t e d =
-    let z : 22 - headLength form + lengthOf form - (22 - headLength form) ≡ lengthOf form = omega arith in
-    rw (e, d, z)
 
 keys-length : (form : Form) → headLength form + linesLength (keysOf form) ≡ lengthOf form
 unfolding bytesOf firstKeys keysOf linesLength
@@ -73,15 +74,47 @@ text-length form ws =
     ∙ (λ j. head-length form j + lines-length (keysOf form) 0 ws j)
     ∙ keys-length form
 
-pub text-copied : (form : Form) (ws b t x : List ℕ) {n s : ℕ} → n ≡ headLength form → s ≡ lengthOf form → s ≤ length b
-    → t ≡ textOf Second (withLines form ws)
-    → let u = take (22 - n + s - (22 - n)) (drop (22 - n) t) in x ≡ take (length u) u ++ drop (length u) b → x ≡ writtenTo form ws b
-unfolding writtenTo
-text-copied form ws b t x {n} {s} i j h e d =
-    let u = take (22 - n + s - (22 - n)) (drop (22 - n) t) in
-    let p : u ≡ textOf form ws = part-taken form t i j ∙ ap (λ (l : List ℕ). take (lengthOf form) (drop (22 - headLength form) l)) e ∙ text-part form ws in
-    let l : length u ≡ lengthOf form = ap length p ∙ text-length form ws in
-    rw (le-leb (lengthOf form) (length b) (rw (← j) h)) (d ∙ rw (take-length u, l, p))
+-- the text of zeros is copied to the front of a buffer, which gives u, and the words are then written to their places in it, which gives x for its lines
+module _ (form : Form) (ws b u x : List ℕ) {n s : ℕ} (i : n ≡ headLength form) (j : s ≡ lengthOf form) where
+  abbrev zeros : List ℕ
+  zeros = take (22 - n + s - (22 - n)) (drop (22 - n) (textOf Second []))
+
+  zeros-are : zeros ≡ textOf form []
+  zeros-are =
+      let z : 22 - headLength form + lengthOf form - (22 - headLength form) ≡ lengthOf form = omega arith in
+      rw (i, j, z) (zeros-part form)
+
+  abbrev heads : List ℕ
+  heads = headOf form
+
+  abbrev lines : List ℕ
+  lines = linesOf (keysOf form) 0 []
+
+  abbrev rest : List ℕ
+  rest = drop (lengthOf form) b
+
+  module _ (c : u ≡ take (length zeros) zeros ++ drop (length zeros) b) where
+    copied : u ≡ heads ++ (lines ++ rest)
+    unfolding textOf
+    copied =
+        let l : length zeros ≡ lengthOf form = ap length zeros-are ∙ text-length form [] in
+        c ∙ rw (take-length zeros, l, zeros-are) (append-assoc heads lines rest)
+
+    lines-size : length lines ≡ s - n
+    lines-size = lines-length (keysOf form) 0 [] ∙ omega (arith, i, j, keys-length form)
+
+    behind : drop n u ≡ lines ++ rest
+    behind = ap (drop n) copied ∙ drop-at heads (lines ++ rest) n (head-length form ∙ sym i)
+
+    pub text-written : {k : ℕ} → k ≡ lineCount form → lengthOf form ≤ length b → x ≡ withWords (take (k - 0) (placesIn Second)) 0 ws (take (s - n) (drop n u))
+        → take n u ++ (x ++ drop (s - n) (drop n u)) ≡ writtenTo form ws b
+    unfolding writtenTo textOf
+    text-written m h d =
+        let p : take n u ≡ heads = ap (take n) copied ∙ take-at heads (lines ++ rest) n (head-length form ∙ sym i) in
+        let q : take (s - n) (drop n u) ≡ lines = ap (take (s - n)) behind ∙ take-at lines rest (s - n) lines-size in
+        let r : drop (s - n) (drop n u) ≡ rest = ap (drop (s - n)) behind ∙ drop-at lines rest (s - n) lines-size in
+        let w : x ≡ linesOf (keysOf form) 0 ws = d ∙ (λ t. withWords (places-taken form m t) 0 ws (q t)) ∙ lines-filled form ws in
+        (λ t. p t ++ (w t ++ r t)) ∙ sym (append-assoc heads (linesOf (keysOf form) 0 ws) rest) ∙ rw (le-leb (lengthOf form) (length b) h)
 
 -- ---- reading
 
@@ -90,14 +123,6 @@ form-ordered : (form : Form) → inOrder 1072 (placesIn form) 0 ≡ true
 unfolding bytesOf firstKeys keysOf placesOf inOrder
 form-ordered First = refl
 form-ordered Second = refl
-
-places-part : (form : Form) → take (lineCount form - 0) (placesIn Second) ≡ placesIn form
-unfolding bytesOf firstKeys keysOf placesOf
-places-part First = refl
-places-part Second = refl
-
-pub places-taken : (form : Form) {n : ℕ} → n ≡ lineCount form → take (n - 0) (placesIn Second) ≡ placesIn form
-places-taken form e = ap (λ (k : ℕ). take (k - 0) (placesIn Second)) e ∙ places-part form
 
 places-few : (form : Form) → length (placesIn form) ≤ 43
 unfolding bytesOf firstKeys keysOf placesOf

@@ -5,7 +5,6 @@ use mathlib.Core.Bool.{Bool, true, false, cond}
 use mathlib.Core.List.{List, [], _∷_, _++_}
 use lib.Dec.{leb}
 use lib.ListN.{length, drop, replicate}
-use Rattle.bits.specs.Lists.{elements}
 use Rattle.bits.specs.Same.{sameList}
 use Rattle.lines.specs.Lines.{lineOf, linesOf, wordsIn}
 use Rattle.text.specs.declared.Form.{Form}
@@ -87,7 +86,3 @@ noText = record { ok = false; words = replicate 43 0 }
 
 unfoldable pub readText : Form → List ℕ → Reading
 readText form t = cond (isTextOf form t) (readAs (wordsOfText form t)) noText
-
--- 43 words with zeros for those that the form has no line for
-unfoldable pub withLines : Form → List ℕ → List ℕ
-withLines form ws = completed form (elements (lineCount form) 0 ws)

@@ -6,8 +6,7 @@ ghost use Prim.Native.Nat.{_≤_};
 ghost use lib.ListN.{length};
 ghost use lib.Seq.{sets};
 ghost use Rattle.lines.specs.Fields.{allOk, wordsRead};
-ghost use Rattle.text.specs.declared.Form.the-variants.{Second};
-ghost use Rattle.text.specs.Text.{lengthOf, headLength, lineCount, withLines, textOf, holdsText, writtenTo, readText};
+ghost use Rattle.text.specs.Text.{lengthOf, headLength, lineCount, holdsText, writtenTo, readText};
 ghost use Rattle.text.specs.Forms.{inOrder, linesBy};
 
 // The forms of a text.
@@ -148,29 +147,21 @@ fn line_count(form: Form) -> usize
     }
 }
 
-// The second form's text, with zeros for the words that the form asked for has no line for.
-fn filled(form: Form, words: [u64; 43]) -> [u8; 1094]
-    ensures { λ r. ⌜ r ≡ textOf Second (withLines form words) ⌝ }
-{
-    let mut text = ZEROS;
-    let count = line_count(form);
-    lines::write_words(&PLACES[0..count], &words, &mut text[22..]);
-    text
-}
-
-// Writes the text to the front of a buffer and answers yes; a buffer shorter than the text stays as it was.
-pub fn write(form: Form, words: [u64; 43], buffer: &mut [u8]) -> bool
+// Writes the text of words to the front of a buffer and answers yes; a buffer shorter than the text stays as it was. A word that is missing is 0.
+pub fn write(form: Form, words: &[u64], buffer: &mut [u8]) -> bool
     ensures { λ r. ⌜ r ≡ holdsText form (now (buffer .entry)) ⌝ }
-    ensures { λ _. ⌜ now (buffer .exit) ≡ writtenTo form words (now (buffer .entry)) ⌝ }
+    ensures { λ _. ⌜ now (buffer .exit) ≡ writtenTo form (now (words .entry)) (now (buffer .entry)) ⌝ }
 {
     let size = text_length(form);
     if buffer.len() < size {
         return false;
     }
-    let text = filled(form, words);
-    let start = 22 - head_length(form);
+    let head = head_length(form);
+    let start = 22 - head;
     let end = start + size;
-    bytes::copy(&text[start..end], buffer);
+    bytes::copy(&ZEROS[start..end], buffer);
+    let count = line_count(form);
+    lines::write_words(&PLACES[0..count], words, &mut buffer[head..size]);
     true
 }
 

@@ -10,7 +10,7 @@ use Rattle.state.specs.Hold.{canHold}
 use Rattle.text.specs.Text.{lengthOf, writtenTo}
 use Rattle.hart.specs.Steps.{hartWith}
 use Rattle.hart.specs.Saved.{formHolds, textHolds}
-use Rattle.hart.proofs.SavedLaws.{Saved, Converted, save-short, save-unfit, save-done, words-are, words-judged, convert-unformed, convert-unheld, convert-saved}
+use Rattle.hart.proofs.SavedLaws.{Saved, Converted, save-short, save-unfit, save-done, words-count, words-are, words-judged, convert-unformed, convert-unheld, convert-saved}
 use borrow.Author.Needs.{needs}
 use Rattle.hart.proofs.saved.convert.Statement.{statement}
 use Rattle.hart.proofs.saved.convert.Tie as tie
@@ -94,10 +94,18 @@ returns-4 c =
     saved g
     (save-unfit (a .to) (hartWith (s .of-words .result)) (a .buffer .now) (held g) (room r) (sym (t .form-holds2 .ensures) ∙ not-true _ (c .if4 .taken)))
 
+slice-aggregate-write : tie.Need-slice-aggregate-write
+slice-aggregate-write c =
+    let s = readOf (c .before .before .before .before .before) in
+    let e = s .before .before in
+    let d = e .before .before in
+    let o = d .before in
+    sym (words-count (o .other-form .result) (o .before .before .before .args .text .now) (d .read .ensures) (not-false _ (e .if1 .left)) (s .of-words .ensures))
+
 returns-5 : tie.Need-returns-5
 returns-5 c =
     let w = c .before .before in
-    let i = w .before .before in
+    let i = w .before .before .before in
     let t = i .before in
     let r = t .before in
     let g = r .before .before in
@@ -127,6 +135,7 @@ convert-spec =
     returns-3
     (λ c κs. search needs)
     returns-4
+    slice-aggregate-write
     (λ c κs. search needs)
     (λ c. search needs)
     returns-5)
