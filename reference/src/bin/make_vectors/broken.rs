@@ -1,6 +1,6 @@
 //! Texts that are refused, broken records, bytes left over, and no input.
 
-use reference::{Hart, form};
+use reference::{Form, Hart};
 
 use crate::vector::{Vector, records, saved};
 
@@ -21,7 +21,7 @@ fn texts() -> Vec<Vector> {
         ("text-upper-case", replaced("a00000000", "A00000000")),
         ("text-carriage-return", replaced("\n", "\r\n")),
         ("text-keys-swapped", replaced("mie=0000000000000000\nmip", "mip=0000000000000000\nmie")),
-        ("text-mode-2", form(&words).to_vec()),
+        ("text-mode-2", Form::First.text(&words)),
         ("text-mpp-2", replaced("mstatus=0000000a00000000", "mstatus=0000000a00001000")),
         ("text-write-without-read", replaced("pmpcfg2=00", "pmpcfg2=02")),
     ]
