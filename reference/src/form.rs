@@ -54,9 +54,6 @@ pub const KEYS: [&str; HART_WORDS] = [
 /// Number of words that have a line in the first form.
 const FIRST_LINES: usize = 41;
 
-/// The key of the line that the second form begins with; its value is the form's number.
-const FORM_KEY: &str = "form";
-
 #[derive(Clone, Copy, PartialEq, Eq, Debug)]
 pub enum Form {
     First = 1,
@@ -104,10 +101,9 @@ impl Form {
     }
 
     /// Fills `text`, which has the length of this form.
-    pub(crate) fn write(self, words: &[u64; HART_WORDS], mut text: &mut [u8]) {
-        if self == Form::Second {
-            text = put_line(text, FORM_KEY, self.number());
-        }
+    pub(crate) fn write(self, words: &[u64; HART_WORDS], text: &mut [u8]) {
+        let (heading, mut text) = text.split_at_mut(self.heading().len());
+        heading.copy_from_slice(self.heading());
         for (key, &word) in self.keys().iter().zip(words) {
             text = put_line(text, key, word);
         }
@@ -115,15 +111,21 @@ impl Form {
 
     /// The words of a text, 0 where they have no line; nothing where the text is not in
     /// this form.
-    pub fn read(self, mut text: &[u8]) -> Option<[u64; HART_WORDS]> {
-        if self == Form::Second && take_line(&mut text, FORM_KEY)? != self.number() {
-            return None;
-        }
+    pub fn read(self, text: &[u8]) -> Option<[u64; HART_WORDS]> {
+        let mut text = text.strip_prefix(self.heading())?;
         let mut words = [0; HART_WORDS];
         for (key, word) in self.keys().iter().zip(&mut words) {
             *word = take_line(&mut text, key)?;
         }
         text.is_empty().then_some(words)
+    }
+
+    /// What each text begins with: the second form says which it is.
+    fn heading(self) -> &'static [u8] {
+        match self {
+            Form::First => b"",
+            Form::Second => b"form=0000000000000002\n",
+        }
     }
 
     /// The keys of the words that have a line.

@@ -121,9 +121,9 @@ fn exchange_keys(random: &mut Random, text: &mut Vec<u8>) -> Damage {
         (0..lines.len()).filter(|&other| lines[other].len() == lines[one].len()).collect();
     let other = random.pick(&same);
     let key = lines[one].len() - line_length("");
-    for place in 0..key {
-        (lines[one][place], lines[other][place]) = (lines[other][place], lines[one][place]);
-    }
+    let keys = [one, other].map(|line| lines[line][..key].to_vec());
+    lines[one][..key].copy_from_slice(&keys[1]);
+    lines[other][..key].copy_from_slice(&keys[0]);
     *text = lines.concat();
     Damage::KeysExchanged
 }
