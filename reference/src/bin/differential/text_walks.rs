@@ -84,10 +84,12 @@ fn walk_lines(sizes: &Sizes) -> Result<u64, Difference> {
         let mut lines: Vec<&[u8]> = text.split_inclusive(|&byte| byte == b'\n').collect();
         let [one, other] =
             [case as usize / MOST, case as usize].map(|line| line % MOST % lines.len());
-        match one == other {
-            false => lines.swap(one, other),
-            true if random.once_in(2) => lines.insert(one, lines[one]),
-            true => _ = lines.remove(one),
+        if one != other {
+            lines.swap(one, other);
+        } else if random.once_in(2) {
+            lines.insert(one, lines[one]);
+        } else {
+            lines.remove(one);
         }
         compare_readers(random, &lines.concat())
     })?;
