@@ -22,8 +22,7 @@ use Rattle.state.proofs.Back.{words-back, state-back}
 use Rattle.map.specs.declared.Map.{Map}
 use Rattle.text.specs.declared.Form.{Form}
 use Rattle.text.specs.declared.Form.the-variants.{First, Second}
-use Rattle.text.specs.declared.Reading.{Reading}
-use Rattle.text.specs.Text.{other, headOf, textOf, lengthOf, readAs, writtenTo, readText}
+use Rattle.text.specs.Text.{Reading, other, headOf, textOf, lengthOf, readAs, writtenTo, readText}
 use Rattle.text.proofs.Template.{text-length}
 use Rattle.text.proofs.Laws.{withLines, all-lines, first-lines, read-text, text-read, read-as, read-words, other-unread}
 use Rattle.hart.specs.declared.Hart.{Hart}

@@ -16,8 +16,7 @@ use Rattle.state.specs.Slices.{loaded}
 use Rattle.state.proofs.Back.{words-back}
 use Rattle.state.proofs.SliceLaws.{all-loaded}
 use Rattle.text.specs.declared.Form.{Form}
-use Rattle.text.specs.declared.Reading.{Reading}
-use Rattle.text.specs.Text.{other, lengthOf, writtenTo, readText}
+use Rattle.text.specs.Text.{Reading, other, lengthOf, writtenTo, readText}
 use Rattle.text.proofs.Laws.{read-words}
 use Rattle.hart.specs.declared.Hart.{Hart}
 use Rattle.hart.specs.Steps.{hartWith}
@@ -56,6 +55,11 @@ module _ (form : Form) (h : Hart) (b : List ℕ) where
       save-done t e = answered (rw (p, le-leb (lengthOf form) (length b) room, t)) (rw (p, t) e)
 
 -- ---- what is made of a text, by what was read of it
+
+-- what was read, from its two parts
+pub read-as : (form : Form) (text : List ℕ) {k : Bool} {ws : List ℕ} → k ≡ readText form text .ok → ws ≡ readText form text .words
+    → record { ok = k; words = ws } ≡ readText form text
+read-as form text e d = λ j. record { ok = e j; words = d j }
 
 module _ {A : Type 0} (form : Form) (text : List ℕ) (refused : ℕ → A) (read : State → A) {r : Reading} (e : r ≡ readText form text) where
   -- where it is not in the form ..

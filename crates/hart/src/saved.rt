@@ -58,15 +58,14 @@ impl Hart {
         ensures { λ r. ⌜ r ≡ restored form self map (now (text .entry)) ⌝ }
         ensures { λ r. ⌜ answerNumbers (r .answer) ≡ restoredNumbers form self map (now (text .entry)) ⌝ }
     {
-        let reading = text::read(form, text);
-        if !reading.ok {
+        let mut words = [0u64; 43];
+        if !text::read(form, text, &mut words) {
             return Stepped {
                 hart: self,
                 map,
                 answer: Answer::Refused(4),
             };
         }
-        let words = reading.words;
         let state = state::of_words(words);
         if !(state::words_can_hold(&words) & form_holds(form, state)) {
             return Stepped {
@@ -94,11 +93,10 @@ pub fn convert(to: Form, text: &[u8], buffer: &mut [u8]) -> Answer
     ensures { λ _. ⌜ now (buffer .exit) ≡ convertedBuffer to (now (text .entry)) (now (buffer .entry)) ⌝ }
 {
     let from = other_form(to);
-    let reading = text::read(from, text);
-    if !reading.ok {
+    let mut words = [0u64; 43];
+    if !text::read(from, text, &mut words) {
         return Answer::Refused(4);
     }
-    let words = reading.words;
     let state = state::of_words(words);
     if !(state::words_can_hold(&words) & form_holds(from, state)) {
         return Answer::Refused(5);

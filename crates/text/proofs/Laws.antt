@@ -13,8 +13,7 @@ use Rattle.bits.proofs.SameLaws.{same-refl, same-eq}
 use Rattle.lines.proofs.Back.{words-found, words-back}
 use Rattle.text.specs.declared.Form.{Form}
 use Rattle.text.specs.declared.Form.the-variants.{First, Second}
-use Rattle.text.specs.declared.Reading.{Reading}
-use Rattle.text.specs.Text.{other, firstKeys, keysOf, headOf, textOf, lengthOf, headLength, lineCount, completed, wordsOfText, isTextOf, readAs, noText, readText}
+use Rattle.text.specs.Text.{Reading, other, firstKeys, keysOf, headOf, textOf, lengthOf, headLength, lineCount, completed, wordsOfText, isTextOf, readAs, noText, readText}
 use Rattle.text.proofs.Template.{head-length, text-length, length-unread}
 
 -- ---- words, and those of them that a form has lines for

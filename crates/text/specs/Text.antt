@@ -9,7 +9,6 @@ use Rattle.bits.specs.Same.{sameList}
 use Rattle.lines.specs.Lines.{lineOf, linesOf, wordsIn}
 use Rattle.text.specs.declared.Form.{Form}
 use Rattle.text.specs.declared.Form.the-variants.{First, Second}
-use Rattle.text.specs.declared.Reading.{Reading}
 
 abbrev pub other : Form → Form
 other First = Second
@@ -75,6 +74,11 @@ wordsOfText form t = completed form (wordsIn (keysOf form) (drop (headLength for
 -- a text in the form: it is the text of the words in it
 unfoldable pub isTextOf : Form → List ℕ → Bool
 isTextOf form t = sameList t (textOf form (wordsOfText form t))
+
+-- whether a text is in the form, and the words that are read of it
+pub record Reading : Type 0 where
+  pub ok : Bool
+  pub words : List ℕ
 
 -- what is read where the text is in the form
 abbrev pub readAs : List ℕ → Reading

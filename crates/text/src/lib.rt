@@ -108,12 +108,6 @@ const PLACES: [usize; 43] = [
     1055,
 ];
 
-// What is read of a text: the words where it is in the form, zeros where it is not.
-pub struct Reading {
-    pub ok: bool,
-    pub words: [u64; 43],
-}
-
 // The bytes of a text.
 pub fn text_length(form: Form) -> usize
     ensures { λ r. ⌜ r ≡ lengthOf form ⌝ }
@@ -187,25 +181,24 @@ fn read_lines(form: &[u8], places: &[usize], text: &[u8], words: &mut [u64]) -> 
     ok
 }
 
-// Reads a text: the words of its lines, if all of them are in the form. Words that the form has no line for are 0.
-pub fn read(form: Form, text: &[u8]) -> Reading
-    ensures { λ r. ⌜ r ≡ readText form (now (text .entry)) ⌝ }
+// Reads a text: the words of its lines, if all of them are in the form. Words that the form has no line for are 0, and so are all where the text is not in
+// the form. They are written where the caller keeps them: handed back, they would be copied.
+pub fn read(form: Form, text: &[u8], words: &mut [u64; 43]) -> bool
+    ensures { λ r. ⌜ r ≡ readText form (now (text .entry)) .ok ⌝ }
+    ensures { λ _. ⌜ now (words .exit) ≡ readText form (now (text .entry)) .words ⌝ }
 {
-    let mut words = [0u64; 43];
+    *words = [0u64; 43];
     if text.len() != text_length(form) {
-        return Reading { ok: false, words };
+        return false;
     }
     let head = head_length(form);
     let count = line_count(form);
     let start = 22 - head;
     let headed = lines::has_key(text, 0, &ZEROS[start..22]);
-    let lined = read_lines(&ZEROS[22..], &PLACES[0..count], &text[head..], &mut words);
+    let lined = read_lines(&ZEROS[22..], &PLACES[0..count], &text[head..], words);
     if headed & lined {
-        Reading { ok: true, words }
-    } else {
-        Reading {
-            ok: false,
-            words: [0; 43],
-        }
+        return true;
     }
+    *words = [0u64; 43];
+    false
 }
