@@ -1,7 +1,5 @@
 // Reading and writing whole buffers, in as many calls as the system takes.
 use libc::STDOUT_FILENO;
-ghost use Prim.Native.Nat.{_≤_};
-ghost use lib.ListN.{length};
 ghost use Rattle.streams.specs.Transfers.{Filled, Written};
 
 // The bytes that were moved, and whether a call failed.

@@ -193,8 +193,8 @@ module _ (m : Memory) where
     last = last-piece;
     stays = λ s p h. piece-still m s p h .0;
     from-reset = from-reset;
-    either-form = either-form;
     from-text = from-text;
+    either-form = either-form;
     refused-text = refused-text;
     reset-whole = λ full last. begun-whole resetSession (resetMapped 0 .hart) (resetMapped 0 .map) full last from-reset;
     text-whole = λ text h map full last e. begun-whole (textSession text) h map full last (from-text text h map e);

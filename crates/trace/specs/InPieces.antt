@@ -73,9 +73,10 @@ pub record InPieces (m : Memory) : Type 0 where
   pub stays : (s : Session) (piece : List ℕ) → s .more ≡ false → afterPiece m s piece ≡ s
   -- the one start is the reset state with G of 0 and its map, and nothing read
   pub from-reset : resetSession ≡ begun (resetMapped 0 .hart) (resetMapped 0 .map)
-  -- the other is the hart and map of a text that is taken, and nothing read; a text in a form is read in that form
-  pub either-form : (form : Form) (text : List ℕ) → readText form text .ok ≡ true → fromText text ≡ fromForm form text
+  -- the other is the hart and map of a text that is taken, and nothing read
   pub from-text : (text : List ℕ) (h : Hart) (map : Map) → fromText text ≡ handedBack h map Done → textSession text ≡ begun h map
+  -- a text in either form is read in that form (02, [10])
+  pub either-form : (form : Form) (text : List ℕ) → readText form text .ok ≡ true → fromText text ≡ fromForm form text
   -- a refused text ends its session at once, with the number of the refusal
   pub refused-text : (text : List ℕ) (n : ℕ) → fromText text .answer ≡ Refused n → (n ≡ 0 → ⊥)
       → (textSession text .more ≡ false) × (textSession text .refusal ≡ n)

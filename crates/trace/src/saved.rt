@@ -32,7 +32,7 @@ fn form_for(state: State) -> Form
     Form::Second
 }
 
-// Behind a call that was to write a text: the line of its refusal, if any, and the bytes of what then stands at the front.
+// Behind a call that was to write a text to the front: writes the line of its refusal, if any, in its place. Answers the length of the text or the line.
 fn put_refusal(form: Form, answer: Answer, out: &mut [u8]) -> usize
     requires { ⌜ 29 ≤ length (now out) ⌝ }
     ensures { λ r. ⌜ r ≡ outcomeLength form (refusalOf answer) ⌝ }
@@ -57,7 +57,7 @@ pub(crate) fn put_state(hart: Hart, out: &mut [u8]) -> usize
     put_refusal(form, answer, out)
 }
 
-// Converts a text to a form and writes it, or the refusal in its place, to the front of a buffer of at least 1,094 bytes.
+// Converts a text to a form and writes it, or the refusal in its place, to the front of a buffer of at least 1,094 bytes. A smaller one stays as it was.
 pub fn write_converted(to: Form, text: &[u8], out: &mut [u8]) -> usize
     ensures { λ r. ⌜ r ≡ writtenLength 1094 (convertedText to (now (text .entry))) (now (out .entry)) ⌝ }
     ensures { λ _. ⌜ now (out .exit) ≡ writtenFront 1094 (convertedText to (now (text .entry))) (now (out .entry)) ⌝ }
