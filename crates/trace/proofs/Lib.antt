@@ -2,6 +2,7 @@
 pub mod Writing
 pub mod WorkedLines
 pub mod Batching
+pub mod SavedTexts
 pub mod Endings
 pub mod Cutting
 pub mod Replaying

@@ -3,6 +3,7 @@ pub mod Buffers
 pub mod Answers
 pub mod WorkedLines
 pub mod Batches
+pub mod SavedTexts
 pub mod Endings
 pub mod Sessions
 pub mod InPieces

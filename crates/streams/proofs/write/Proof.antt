@@ -1,18 +1,17 @@
 use Prim.Native.Nat.{_-_, _≤_}
-use mathlib.Core.Path.{_≡_}
 use lib.ListN.{length}
 use borrow.Author.Needs.{needs}
-use Rattle.replay_stream.proofs.fill.Statement.{statement}
-use Rattle.replay_stream.proofs.fill.Tie as tie
+use Rattle.streams.proofs.write.Statement.{statement}
+use Rattle.streams.proofs.write.Tie as tie
 
 abbrev Inv-loop : tie.InvT-loop
-Inv-loop fd buffer₀ n₀ buffer n = (n ≤ length buffer) × (length buffer ≡ length buffer₀)
+Inv-loop bytes count₀ t5 count = count ≤ length bytes
 
 abbrev μ-loop : tie.MeasureT-loop
-μ-loop fd buffer₀ n₀ buffer n = length buffer - n
+μ-loop bytes count₀ t5 count = length bytes - count
 
-pub fill-spec : {M : Type 1} → statement M
-fill-spec =
+pub write-spec : {M : Type 1} → statement M
+write-spec =
     tie.close
     (tie.spec
     Inv-loop
@@ -25,12 +24,9 @@ fill-spec =
     (λ c. search needs)
     (λ c. search needs)
     (λ c. search needs)
-    (λ c. search needs)
-    (λ c. search needs)
     (λ c κs. search needs)
     (λ c. search needs)
-    (λ c. search needs)
-    (λ c. search needs)
+    (λ c κs. search needs)
     (λ c. search needs)
     (λ c. search needs)
     (λ c. search needs)
