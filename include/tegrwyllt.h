@@ -8,7 +8,7 @@
  * says, whatever the slices hold and however long they are. Nothing is kept
  * from one call to the next.
  *
- * A hart is 43 words, first those of the saved text in its order: mode pc
+ * A hart is 43 words, first those of form 1 of a saved text: mode pc
  * mstatus medeleg mideleg mie mip lines mtvec mcounteren mcountinhibit mscratch
  * mepc mcause mtval stvec scounteren sscratch sepc scause stval mcycle minstret
  * pmpcfg0 pmpcfg2 pmpaddr0 .. pmpaddr15; then satp and the grain. mip has the

@@ -24,7 +24,7 @@ use Rattle.hart.specs.Runs.{leftBy, answersBy}
 use Rattle.hart.specs.Queries.{queryAnswer}
 use Rattle.hart.specs.Saved.{savedAnswer, savedBuffer, restored, convertedAnswer, convertedBuffer}
 
--- the hart of 43 words: those of the saved text in its order, satp and the grain
+-- the hart of 43 words: those of the first form's lines in their order, satp and the grain
 abbrev pub hartOf : List ℕ → Hart
 hartOf words = hartWith (stateOf words)
 

@@ -6,8 +6,9 @@ use mathlib.Core.List.{List, _++_}
 use mathlib.Core.Option.{Option, none, some, Option·some-injective, Option·none-ne-some}
 use lib.Bits.{bitAnd}
 use lib.Dec.{eqb, leb, ltb}
-use lib.ListN.{length, drop}
+use lib.ListN.{length, take, drop}
 use Rattle.bits.proofs.Conjunction.{contradiction}
+use Rattle.lines.specs.Lines.{bytesOf, hexDigits, lineOf}
 use Rattle.pmp.specs.declared.Mode.{Mode}
 use Rattle.pmp.specs.declared.Access.{Access}
 use Rattle.pmp.specs.declared.Access.the-variants.{Fetch, Load, Store}
@@ -47,7 +48,8 @@ use Rattle.map.specs.Lookup.{findRange, rangesIn, ownerFound, ownerIn}
 use Rattle.map.specs.Query.{rangesDecide, queried}
 use Rattle.text.specs.declared.Form.{Form}
 use Rattle.text.specs.declared.Form.the-variants.{First, Second}
-use Rattle.text.specs.Text.{other, textOf, lengthOf, writtenTo, readText}
+use Rattle.text.specs.Text.{Reading, other, headOf, textOf, lengthOf, writtenTo, readText}
+use Rattle.text.proofs.Laws.{text-read, read-as, other-unread}
 use Rattle.engine.specs.Effects.{
   Effect,
   refused,
@@ -281,7 +283,7 @@ bytes-are : (form : Form) → bytesOfForm form ≡ lengthOf form
 bytes-are First = refl
 bytes-are Second = refl
 
-unheld : (form : Form) (s : State) → unheldBy form s ≡ not (formHolds form s)
+pub unheld : (form : Form) (s : State) → unheldBy form s ≡ not (formHolds form s)
 unfolding firstFormHolds
 unheld First s = refl
 unheld Second s = refl
@@ -359,6 +361,33 @@ module _ (to : Form) (text buffer : List ℕ) where
       go true false e = refl
       go false b e = refl
 
+-- ---- texts of the other form, and of none
+
+module _ (form : Form) (text : List ℕ) (e : readText form text .ok ≡ false) where
+  unformed : (h : Hart) (map : Map) → restored form h map text .answer ≡ Refused 4
+  unfolding restored
+  unformed h map = rw e
+
+other-form : (form : Form) (text : List ℕ) → readText form text .ok ≡ true → readText (other form) text .ok ≡ false
+other-form form text e = ap (λ (r : Reading). r .ok) (other-unread form text e)
+
+same-form : (to : Form) (text buffer : List ℕ) → readText to text .ok ≡ true → convertedAnswer to text buffer ≡ Refused 4
+unfolding convertedAnswer
+same-form to text buffer e = rw (other-form to text e)
+
+second-begins : (ws : List ℕ) → take 22 (textOf Second ws) ≡ bytesOf "form=0000000000000002\n"
+unfolding textOf headOf lineOf bytesOf hexDigits
+second-begins ws = refl
+
+form-line : (h : Hart) (map : Map) (text : List ℕ) → (take 22 text ≡ bytesOf "form=0000000000000002\n" → ⊥) → restored Second h map text .answer ≡ Refused 4
+form-line h map text line = go (readText Second text .ok) refl
+  where
+    go : (b : Bool) → readText Second text .ok ≡ b → restored Second h map text .answer ≡ Refused 4
+    go true e =
+        let ws = readText Second text .words in
+        absurd (line (ap (take 22) (text-read Second text ws (read-as Second text e)) ∙ second-begins ws))
+    go false e = unformed Second text e h map
+
 -- ---- the whole table
 
 pub refusal-table : RefusalTable
@@ -376,4 +405,7 @@ refusal-table =
       restore-unchanged = λ form h map text. handed-unchanged h map (restoreRefusal form text) (restored form h map text) (read-handed form h map text);
       convert = λ to text buffer. told-exactly (convertRefusal to text buffer) (convertedAnswer to text buffer) (convert-told to text buffer);
       convert-unchanged = convert-unchanged;
+      other-form = λ form h map text e. unformed (other form) text (other-form form text e) h map;
+      same-form = same-form;
+      form-line = form-line;
     }

@@ -4,13 +4,12 @@ use mathlib.Core.Path.{_≡_, refl, sym, ap, subst, _∙_}
 use mathlib.Core.Bool.{Bool, true, false, cond, not, _&&_, false≢true}
 use mathlib.Core.List.{List, _++_}
 use native.Mathlib.Omega.{arith}
-use borrow.Author.Tests.{le-leb, leb-true, eqb-true}
+use borrow.Author.Tests.{le-leb, leb-true, eqb-true, not-false}
 use lib.Dec.{eqb, leb}
 use lib.ListN.{length, take, drop}
 use lib.Seq.{take-at}
 use Rattle.bits.specs.Lists.{elements, Words}
 use Rattle.bits.proofs.Conjunction.{both}
-use Rattle.lines.specs.Lines.{bytesOf, hexDigits, lineOf}
 use Rattle.steps.specs.declared.Answer.{Answer}
 use Rattle.steps.specs.declared.Answer.the-variants.{Done, DoneValue, DoneFlag, Granted, Trapped, Refused}
 use Rattle.steps.specs.Number.{refusalOf}
@@ -22,16 +21,22 @@ use Rattle.state.proofs.Back.{words-back, state-back}
 use Rattle.map.specs.declared.Map.{Map}
 use Rattle.text.specs.declared.Form.{Form}
 use Rattle.text.specs.declared.Form.the-variants.{First, Second}
-use Rattle.text.specs.Text.{Reading, other, headOf, textOf, lengthOf, readAs, writtenTo, readText}
+use Rattle.text.specs.Text.{Reading, other, textOf, lengthOf, readAs, writtenTo, readText}
 use Rattle.text.proofs.Template.{text-length}
-use Rattle.text.proofs.Laws.{withLines, all-lines, first-lines, read-text, text-read, read-as, read-words, other-unread}
+use Rattle.text.proofs.Laws.{withLines, all-lines, first-lines, read-text, text-read, read-as, read-words}
 use Rattle.hart.specs.declared.Hart.{Hart}
 use Rattle.hart.specs.declared.Stepped.{Stepped}
 use Rattle.hart.specs.Steps.{mapFor, hartWith, handedBack}
 use Rattle.hart.specs.Saved.{textFor, formHolds, textHolds, savedAnswer, savedBuffer, stateIn, byText, restoredDone, restored, convertedAnswer, convertedBuffer}
+use Rattle.claims.specs.Refusals.{unheldBy}
+use Rattle.claims.proofs.RefusalLaws.{unheld}
 use Rattle.claims.specs.Texts.{Typed, textAt, SavesAndRestores, ReadsAs, Lossless, converted, Conversion, resaved}
 
 -- ---- what was saved reads back
+
+-- a state that is not refused by 12
+fitting : (form : Form) (s : State) → unheldBy form s ≡ false → formHolds form s ≡ true
+fitting form s q = not-false (formHolds form s) (sym (unheld form s) ∙ q)
 
 -- a state that the first form holds has satp 0 and grain 0
 plain : (s : State) → firstFormHolds s ≡ true → (s .satp ≡ 0) × (s .pmp .grain ≡ 0)
@@ -161,38 +166,15 @@ restored-saved form h m text b e room =
       saved-text form h b (hart-held r) (hart-fits r) room ∙ ap (λ (l : List ℕ). l ++ drop (lengthOf form) b) (sym (text-is r)),
     )
 
--- ---- texts of another form
-
-module _ (form : Form) (g : Hart) (map : Map) (text : List ℕ) where
-  unformed : readText form text .ok ≡ false → restored form g map text ≡ handedBack g map (Refused 4)
-  unfolding restored
-  unformed e = rw e
-
-second-begins : (ws : List ℕ) → take 22 (textOf Second ws) ≡ bytesOf "form=0000000000000002\n"
-unfolding textOf headOf lineOf bytesOf hexDigits
-second-begins ws = refl
-
-first-line : (g : Hart) (map : Map) (text : List ℕ) → (take 22 text ≡ bytesOf "form=0000000000000002\n" → ⊥)
-    → restored Second g map text ≡ handedBack g map (Refused 4)
-first-line g map text h = go (readText Second text .ok) refl
-  where
-    go : (b : Bool) → readText Second text .ok ≡ b → restored Second g map text ≡ handedBack g map (Refused 4)
-    go true e =
-        let ws = readText Second text .words in
-        absurd (h (ap (take 22) (text-read Second text ws (read-as Second text e)) ∙ second-begins ws))
-    go false e = unformed Second g map text e
-
 pub lossless : Lossless
 lossless =
     record {
       second = λ h t p. saves-and-restores Second h t p refl;
-      first = saves-and-restores First;
+      first = λ h t p q. saves-and-restores First h t p (fitting First (h .state) q);
       read-alike = λ form g h map m text e. reads (text-reads form g h map m text e);
       restored-saved = restored-saved;
       one-text = λ form h m n text second d e. text-is (read-of d) ∙ sym (text-is (read-of e));
       read-plain = λ h m text e. plain (h .state) (hart-fits (read-of e));
-      first-line = first-line;
-      other-refused = λ form g map text e. unformed (other form) g map text (ap (λ (r : Reading). r .ok) (other-unread form text e));
     }
 
 -- ---- converting
@@ -279,7 +261,7 @@ pub conversion : Conversion
 conversion =
     record {
       keeps = λ to h m text b e d. (kept to h m text b e d, written to h m text b e d);
-      to-second = λ h m text b e room. answer-saved Second h m text b e ∙ saved-done Second h b (hart-held (read-of e)) refl room;
+      done = λ to h m text b e q room. answer-saved to h m text b e ∙ saved-done to h b (hart-held (read-of e)) (fitting to (h .state) q) room;
       back = there-and-back;
       read-and-saved = λ to h m text b e. (answer-saved to h m text b e, buffer-saved to h m text b e);
     }

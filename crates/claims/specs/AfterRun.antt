@@ -14,9 +14,7 @@ use Rattle.paging.specs.Memory.{Memory}
 use Rattle.state.specs.declared.State.{State}
 use Rattle.text.specs.declared.Form.{Form}
 use Rattle.engine.specs.Runs.{Lent, lent, afterAll}
-use Rattle.hart.specs.declared.Stepped.{Stepped}
-use Rattle.hart.specs.Steps.{resetMapped}
-use Rattle.hart.specs.Saved.{restored}
+use Rattle.hart.specs.Saved.{readAnew}
 
 -- the steps that numbers name, three for each; where three of them name none, or one or two are left over, no step is taken
 abbrev pub stepsIn : Memory → List ℕ → List Lent
@@ -27,13 +25,9 @@ abbrev pub ruleAfter : State → List Lent → Mode → Access → ℕ → ℕ �
 ruleAfter s steps mode access address size =
     checked (afterAll s steps .pmp .grain) (afterAll s steps .pmp .cfgs) (afterAll s steps .pmp .addrs) mode access address size
 
--- what reading a text back gives, where nothing stood before
-abbrev pub readBack : Form → List ℕ → Stepped
-readBack form text = restored form (resetMapped 0 .hart) (resetMapped 0 .map) text
-
 -- the same from the state of a text of either form; a refused text answers with its refusal
 unfoldable pub ruleFromText : Form → List ℕ → List Lent → Mode → Access → ℕ → ℕ → Decision
 ruleFromText form text steps mode access address size =
-    cond (eqb (refusalOf (readBack form text .answer)) 0)
-    (ruleAfter (readBack form text .hart .state) steps mode access address size)
-    (Refused (refusalOf (readBack form text .answer)))
+    cond (eqb (refusalOf (readAnew form text .answer)) 0)
+    (ruleAfter (readAnew form text .hart .state) steps mode access address size)
+    (Refused (refusalOf (readAnew form text .answer)))

@@ -7,8 +7,9 @@ use mathlib.Core.Logic.{_↔_}
 use mathlib.Core.Option.{Option, none, some}
 use lib.Bits.{bitAnd}
 use lib.Dec.{eqb, leb, ltb}
-use lib.ListN.{length}
+use lib.ListN.{length, take}
 use Rattle.bits.specs.Mask.{testBit}
+use Rattle.lines.specs.Lines.{bytesOf}
 use Rattle.pmp.specs.declared.Mode.{Mode}
 use Rattle.pmp.specs.declared.Access.{Access}
 use Rattle.pmp.specs.declared.Access.the-variants.{Fetch, Load, Store}
@@ -152,3 +153,8 @@ pub record RefusalTable : Type 0 where
   -- a conversion, and a refused one leaves the buffer as it was
   pub convert : (to : Form) (text buffer : List ℕ) → Exactly (λ n. convertedAnswer to text buffer ≡ Refused n) (convertRefusal to text buffer)
   pub convert-unchanged : (to : Form) (text buffer : List ℕ) (n : ℕ) → convertedAnswer to text buffer ≡ Refused n → convertedBuffer to text buffer ≡ buffer
+  -- "each reader refuses the other's form by refusal 4", also where no hart can hold the text's state; so a text of the form asked for is not converted
+  pub other-form : (form : Form) (h : Hart) (map : Map) (text : List ℕ) → readText form text .ok ≡ true → restored (other form) h map text .answer ≡ Refused 4
+  pub same-form : (to : Form) (text buffer : List ℕ) → readText to text .ok ≡ true → convertedAnswer to text buffer ≡ Refused 4
+  -- "the second form begins with a line `form=` and the value 2": a text that begins otherwise is refused by 4
+  pub form-line : (h : Hart) (map : Map) (text : List ℕ) → (take 22 text ≡ bytesOf "form=0000000000000002\n" → ⊥) → restored Second h map text .answer ≡ Refused 4

@@ -1,10 +1,9 @@
 -- 01, "Saved text", and 02, [10]: the text claim of demand 2, within each form, and what converting keeps.
 use Prim.Native.Nat.{ℕ, _^_, _≤_, _<_}
 use mathlib.Core.Path.{_≡_}
-use mathlib.Core.Bool.{true, cond}
+use mathlib.Core.Bool.{true, false, cond}
 use mathlib.Core.List.{List, _++_}
 use lib.ListN.{length, getD, take, drop}
-use Rattle.lines.specs.Lines.{bytesOf}
 use Rattle.steps.specs.declared.Answer.the-variants.{Done, Refused}
 use Rattle.protection.specs.Arrays.{Arrays}
 use Rattle.state.specs.declared.State.{State}
@@ -13,11 +12,12 @@ use Rattle.state.specs.Words.{wordsOf}
 use Rattle.map.specs.declared.Map.{Map}
 use Rattle.text.specs.declared.Form.{Form}
 use Rattle.text.specs.declared.Form.the-variants.{First, Second}
-use Rattle.text.specs.Text.{other, lengthOf, readText}
+use Rattle.text.specs.Text.{other, lengthOf}
 use Rattle.hart.specs.declared.Hart.{Hart}
 use Rattle.hart.specs.declared.Stepped.{Stepped}
 use Rattle.hart.specs.Steps.{handedBack}
 use Rattle.hart.specs.Saved.{textFor, formHolds, savedAnswer, savedBuffer, restored, restoredDone, convertedAnswer, convertedBuffer}
+use Rattle.claims.specs.Refusals.{unheldBy}
 
 -- what every value of the type State has, and its lists of numbers do not say
 pub record Typed (s : State) : Type 0 where
@@ -44,7 +44,7 @@ pub record Lossless : Type 0 where
   -- "the second form is without loss for every state"
   pub second : (h : Hart) → Typed (h .state) → canHold (h .state) ≡ true → SavesAndRestores Second h
   -- "the old one for every state it doesn't refuse by 12"
-  pub first : (h : Hart) → Typed (h .state) → canHold (h .state) ≡ true → formHolds First (h .state) ≡ true → SavesAndRestores First h
+  pub first : (h : Hart) → Typed (h .state) → canHold (h .state) ≡ true → unheldBy First (h .state) ≡ false → SavesAndRestores First h
   -- what is read back does not hang on the hart and map that went in
   pub read-alike : (form : Form) (g h : Hart) (map m : Map) (text : List ℕ) → restored form g map text ≡ handedBack h m Done → ReadsAs form text h m
   -- saving what a text reads back as writes that text
@@ -54,12 +54,6 @@ pub record Lossless : Type 0 where
   pub one-text : (form : Form) (h : Hart) (m n : Map) (text second : List ℕ) → ReadsAs form text h m → ReadsAs form second h n → text ≡ second
   -- "old texts read as satp 0, G 0"
   pub read-plain : (h : Hart) (m : Map) (text : List ℕ) → ReadsAs First text h m → (h .state .satp ≡ 0) × (h .state .pmp .grain ≡ 0)
-  -- "the second form begins with a line `form=` and the value 2": whatever begins otherwise is refused by 4
-  pub first-line : (g : Hart) (map : Map) (text : List ℕ) → (take 22 text ≡ bytesOf "form=0000000000000002\n" → ⊥)
-      → restored Second g map text ≡ handedBack g map (Refused 4)
-  -- "each reader refuses the other's form by refusal 4", also a text whose state no hart can hold
-  pub other-refused : (form : Form) (g : Hart) (map : Map) (text : List ℕ) → readText form text .ok ≡ true
-      → restored (other form) g map text ≡ handedBack g map (Refused 4)
 
 -- ---- from form to form
 
@@ -71,8 +65,9 @@ pub record Conversion : Type 0 where
   -- "converting keeps the state", and bytes past the text are unchanged
   pub keeps : (to : Form) (h : Hart) (m : Map) (text buffer : List ℕ) → ReadsAs (other to) text h m → convertedAnswer to text buffer ≡ Done
       → ReadsAs to (converted to text buffer) h m × (convertedBuffer to text buffer ≡ textFor to h ++ drop (lengthOf to) buffer)
-  -- every text that can be read converts to the second form
-  pub to-second : (h : Hart) (m : Map) (text buffer : List ℕ) → ReadsAs First text h m → lengthOf Second ≤ length buffer → convertedAnswer Second text buffer ≡ Done
+  -- every text that can be read converts, to the first form where 12 does not refuse its state
+  pub done : (to : Form) (h : Hart) (m : Map) (text buffer : List ℕ) → ReadsAs (other to) text h m → unheldBy to (h .state) ≡ false → lengthOf to ≤ length buffer
+      → convertedAnswer to text buffer ≡ Done
   -- "old to new and back gives the same bytes", and so does new to old and back where there is an old one
   pub back : (to : Form) (text buffer again : List ℕ) → convertedAnswer to text buffer ≡ Done → lengthOf (other to) ≤ length again
       → (convertedAnswer (other to) (converted to text buffer) again ≡ Done)

@@ -10,6 +10,7 @@ ghost use Rattle.claims.specs.Texts.{resaved};
 pub fn resaved(form: Form, hart: Hart, map: Map) -> Stepped
     ensures { λ r. ⌜ r ≡ resaved form hart map ⌝ }
 {
+    // what the types of a state say, for the proof
     let state = hart.state;
     let pmp = state.pmp;
     protection::typed(pmp);

@@ -12,10 +12,10 @@ use Rattle.state.specs.Texts.{firstFormHolds}
 use Rattle.map.specs.declared.Map.{Map}
 use Rattle.text.specs.declared.Form.{Form}
 use Rattle.text.specs.declared.Form.the-variants.{First, Second}
-use Rattle.text.specs.Text.{other, textOf, holdsText, writtenTo, readText}
+use Rattle.text.specs.Text.{other, textOf, hasRoomFor, writtenTo, readText}
 use Rattle.hart.specs.declared.Hart.{Hart}
 use Rattle.hart.specs.declared.Stepped.{Stepped}
-use Rattle.hart.specs.Steps.{mapFor, hartWith, handedBack}
+use Rattle.hart.specs.Steps.{mapFor, hartWith, resetMapped, handedBack}
 
 -- ---- saving
 
@@ -35,7 +35,7 @@ textHolds form s = canHold s && formHolds form s
 -- refusal 3, then 6: the buffer is shorter than a text of the form; then 12: satp, the grain, SUM or a bit of medeleg has no place in the form
 unfoldable pub savedAnswer : Form → Hart → List ℕ → Answer
 savedAnswer form h buffer =
-    cond (canHold (h .state)) (cond (holdsText form buffer) (cond (formHolds form (h .state)) Done (Refused 12)) (Refused 6)) (Refused 3)
+    cond (canHold (h .state)) (cond (hasRoomFor form buffer) (cond (formHolds form (h .state)) Done (Refused 12)) (Refused 6)) (Refused 3)
 
 -- the number and values of that answer
 abbrev pub savedNumbers : Form → Hart → List ℕ → List ℕ
@@ -63,6 +63,10 @@ restoredDone s = handedBack (hartWith s) (mapFor (s .pmp)) Done
 -- a refused text hands back the hart and map that went in
 unfoldable pub restored : Form → Hart → Map → List ℕ → Stepped
 restored form h map text = byText form text (λ n. handedBack h map (Refused n)) restoredDone
+
+-- what reading a text back gives where nothing stood before
+abbrev pub readAnew : Form → List ℕ → Stepped
+readAnew form text = restored form (resetMapped 0 .hart) (resetMapped 0 .map) text
 
 -- the number and values of its answer
 abbrev pub restoredNumbers : Form → Hart → Map → List ℕ → List ℕ

@@ -85,8 +85,8 @@ impl Hart {
     }
 }
 
-// Reads a text of the other form, and writes its hart's text in the form asked for to the front of a buffer. A refusal leaves the buffer as it was. It
-// calls neither `restore`, as no map is wanted, nor `save`, which with one caller in a program is compiled in line there.
+// Reads a text of the other form, and writes its hart's text in the form asked for to the front of a buffer. A refusal leaves the buffer as it was. No
+// map is wanted, so it does not go through `restore`; nor through `save`, for its speed (docs/DECISIONS.md).
 pub fn convert(to: Form, text: &[u8], buffer: &mut [u8]) -> Answer
     ensures { λ r. ⌜ r ≡ convertedAnswer to (now (text .entry)) (now (buffer .entry)) ⌝ }
     ensures { λ r. ⌜ answerNumbers r ≡ convertedNumbers to (now (text .entry)) (now (buffer .entry)) ⌝ }

@@ -20,7 +20,7 @@ use Rattle.lines.proofs.Reading.{head-same, lines-length, text-judged, words-ju
 use Rattle.text.specs.declared.Form.{Form}
 use Rattle.text.specs.declared.Form.the-variants.{First, Second}
 use Rattle.text.specs.Text.{firstKeys, keysOf, headOf, textOf, lengthOf, headLength, lineCount, writtenTo, completed, wordsOfText, isTextOf, readAs, noText, readText}
-use Rattle.text.specs.Forms.{inOrder, linesBy}
+use Rattle.text.specs.Template.{inOrder, linesBy}
 
 -- the places of the digits that a form has, behind the head
 abbrev pub placesIn : Form → List ℕ
@@ -192,26 +192,26 @@ length-unread form t h = rw (← same-lengths t (textOf form (wordsOfText form t
 
 -- ---- the loop over the lines, where i of them are read and the next starts at place p
 
-module _ (form ps : List ℕ) (i p : ℕ) where
+module _ (template ps : List ℕ) (i p : ℕ) where
   abbrev digits : ℕ
   digits = getD ps i 0
 
-  pub line-ordered : i < length ps → inOrder (length form) (drop i ps) p ≡ true
-      → (p ≤ digits) × (digits + 17 ≤ length form) × (inOrder (length form) (drop (i + 1) ps) (digits + 17) ≡ true)
+  pub line-ordered : i < length ps → inOrder (length template) (drop i ps) p ≡ true
+      → (p ≤ digits) × (digits + 17 ≤ length template) × (inOrder (length template) (drop (i + 1) ps) (digits + 17) ≡ true)
   unfolding inOrder
   line-ordered h e =
-      let b = both (leb p digits && leb (digits + 17) (length form)) (inOrder (length form) (drop (i + 1) ps) (digits + 17)) (rw (from-place ps i h) at e) in
-      let l = both (leb p digits) (leb (digits + 17) (length form)) (b .0) in
-      (leb-true p digits (l .0), leb-true (digits + 17) (length form) (l .1), b .1)
+      let b = both (leb p digits && leb (digits + 17) (length template)) (inOrder (length template) (drop (i + 1) ps) (digits + 17)) (rw (from-place ps i h) at e) in
+      let l = both (leb p digits) (leb (digits + 17) (length template)) (b .0) in
+      (leb-true p digits (l .0), leb-true (digits + 17) (length template) (l .1), b .1)
 
   pub lines-more : (t : List ℕ) (ok : Bool) (ws : List ℕ) (k : Bool) (f : Field)
-      → i < length ps → k ≡ hasKey t p (take (digits - p) (drop p form)) → f ≡ wordAt t digits
-      → ((ok && allOk (linesBy form (drop i ps) t p)) ≡ (((ok && k) && f .ok) && allOk (linesBy form (drop (i + 1) ps) t (digits + 17))))
-      × (sets ws i (wordsRead (linesBy form (drop i ps) t p)) ≡ sets (set ws i (f .word)) (i + 1) (wordsRead (linesBy form (drop (i + 1) ps) t (digits + 17))))
+      → i < length ps → k ≡ hasKey t p (take (digits - p) (drop p template)) → f ≡ wordAt t digits
+      → ((ok && allOk (linesBy template (drop i ps) t p)) ≡ (((ok && k) && f .ok) && allOk (linesBy template (drop (i + 1) ps) t (digits + 17))))
+      × (sets ws i (wordsRead (linesBy template (drop i ps) t p)) ≡ sets (set ws i (f .word)) (i + 1) (wordsRead (linesBy template (drop (i + 1) ps) t (digits + 17))))
   unfolding linesBy allOk wordsRead
   lines-more t ok ws k f h d e = (rw (from-place ps i h, ← d, ← e) (simp and-assoc), rw (from-place ps i h, ← e, add-one i))
 
   pub lines-all : (t : List ℕ) (ok : Bool) (ws : List ℕ) → length ps ≤ i
-      → ((ok && allOk (linesBy form (drop i ps) t p)) ≡ ok) × (sets ws i (wordsRead (linesBy form (drop i ps) t p)) ≡ ws)
+      → ((ok && allOk (linesBy template (drop i ps) t p)) ≡ ok) × (sets ws i (wordsRead (linesBy template (drop i ps) t p)) ≡ ws)
   unfolding linesBy allOk wordsRead
   lines-all t ok ws h = (rw (drop-of-length-le ps h) (and-true ok), rw (drop-of-length-le ps h))

@@ -53,12 +53,12 @@ lineCount Second = 43
 -- ---- writing
 
 -- the buffer has room for the text
-abbrev pub holdsText : Form → List ℕ → Bool
-holdsText form b = leb (lengthOf form) (length b)
+abbrev pub hasRoomFor : Form → List ℕ → Bool
+hasRoomFor form b = leb (lengthOf form) (length b)
 
 -- a buffer after writing: bytes past the text are unchanged, and so is a shorter buffer
 unfoldable pub writtenTo : Form → List ℕ → List ℕ → List ℕ
-writtenTo form ws b = cond (holdsText form b) (textOf form ws ++ drop (lengthOf form) b) b
+writtenTo form ws b = cond (hasRoomFor form b) (textOf form ws ++ drop (lengthOf form) b) b
 
 -- ---- reading
 

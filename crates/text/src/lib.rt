@@ -6,8 +6,8 @@ ghost use Prim.Native.Nat.{_≤_};
 ghost use lib.ListN.{length};
 ghost use lib.Seq.{sets};
 ghost use Rattle.lines.specs.Fields.{allOk, wordsRead};
-ghost use Rattle.text.specs.Text.{lengthOf, headLength, lineCount, holdsText, writtenTo, readText};
-ghost use Rattle.text.specs.Forms.{inOrder, linesBy};
+ghost use Rattle.text.specs.Text.{lengthOf, headLength, lineCount, hasRoomFor, writtenTo, readText};
+ghost use Rattle.text.specs.Template.{inOrder, linesBy};
 
 // The forms of a text.
 pub enum Form {
@@ -143,7 +143,7 @@ fn line_count(form: Form) -> usize
 
 // Writes the text of words to the front of a buffer and answers yes; a buffer shorter than the text stays as it was. A word that is missing is 0.
 pub fn write(form: Form, words: &[u64], buffer: &mut [u8]) -> bool
-    ensures { λ r. ⌜ r ≡ holdsText form (now (buffer .entry)) ⌝ }
+    ensures { λ r. ⌜ r ≡ hasRoomFor form (now (buffer .entry)) ⌝ }
     ensures { λ _. ⌜ now (buffer .exit) ≡ writtenTo form (now (words .entry)) (now (buffer .entry)) ⌝ }
 {
     let size = text_length(form);
@@ -159,19 +159,19 @@ pub fn write(form: Form, words: &[u64], buffer: &mut [u8]) -> bool
     true
 }
 
-// Reads line after line. The key of each stands in a form, from the end of the line before up to the place of its digits. Key and word are
+// Reads line after line. The key of each stands in a template, from the end of the line before up to the place of its digits. Key and word are
 // read apart: as read_word has this caller too, lines::read_line stays small, and is inlined where its key is a constant.
-fn read_lines(form: &[u8], places: &[usize], text: &[u8], words: &mut [u64]) -> bool
-    requires { ⌜ (inOrder (length (now form)) (now places) 0 ≡ true) × (length (now places) ≤ length (now words)) ⌝ }
-    ensures { λ r. ⌜ r ≡ allOk (linesBy (now (form .entry)) (now (places .entry)) (now (text .entry)) 0) ⌝ }
-    ensures { λ _. ⌜ now (words .exit) ≡ sets (now (words .entry)) 0 (wordsRead (linesBy (now (form .entry)) (now (places .entry)) (now (text .entry)) 0)) ⌝ }
+fn read_lines(template: &[u8], places: &[usize], text: &[u8], words: &mut [u64]) -> bool
+    requires { ⌜ (inOrder (length (now template)) (now places) 0 ≡ true) × (length (now places) ≤ length (now words)) ⌝ }
+    ensures { λ r. ⌜ r ≡ allOk (linesBy (now (template .entry)) (now (places .entry)) (now (text .entry)) 0) ⌝ }
+    ensures { λ _. ⌜ now (words .exit) ≡ sets (now (words .entry)) 0 (wordsRead (linesBy (now (template .entry)) (now (places .entry)) (now (text .entry)) 0)) ⌝ }
 {
     let mut ok = true;
     let mut start: usize = 0;
     let mut i: usize = 0;
     while i < places.len() {
         let place = places[i];
-        let keyed = lines::has_key(text, start, &form[start..place]);
+        let keyed = lines::has_key(text, start, &template[start..place]);
         let digits = lines::read_word(text, place);
         ok = ok & keyed & digits.ok;
         words[i] = digits.word;

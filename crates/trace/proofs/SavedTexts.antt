@@ -19,7 +19,7 @@ use Rattle.state.specs.Texts.{firstFormHolds}
 use Rattle.state.specs.Words.{wordsOf}
 use Rattle.text.specs.declared.Form.{Form}
 use Rattle.text.specs.declared.Form.the-variants.{First, Second}
-use Rattle.text.specs.Text.{other, textOf, lengthOf, holdsText, writtenTo, readText}
+use Rattle.text.specs.Text.{other, textOf, lengthOf, hasRoomFor, writtenTo, readText}
 use Rattle.text.proofs.Template.{text-length}
 use Rattle.text.proofs.Laws.{text-read, read-as}
 use Rattle.hart.specs.declared.Hart.{Hart}
@@ -27,7 +27,7 @@ use Rattle.hart.specs.Steps.{hartWith}
 use Rattle.hart.specs.Saved.{textFor, formHolds, textHolds, stateIn, savedAnswer, savedBuffer, convertedAnswer, convertedBuffer}
 use Rattle.trace.specs.Buffers.{Put}
 use Rattle.trace.specs.Answers.{refusedLine}
-use Rattle.trace.specs.SavedTexts.{formByLength, formFor, stateText, convertedText, refusalText, outcomeLength}
+use Rattle.trace.specs.SavedTexts.{formByLength, formFor, stateText, convertedOutput, refusalText, outcomeLength}
 use Rattle.trace.proofs.Writing.{numbered-length}
 
 -- ---- forms
@@ -72,8 +72,8 @@ state-length h = go (canHold (h .state))
     go true = text-fits (formFor (h .state)) (wordsOf (h .state))
     go false = refused-length 3
 
-pub converted-length : (to : Form) (t : List ℕ) → length (convertedText to t) ≤ 1094
-unfolding convertedText
+pub converted-length : (to : Form) (t : List ℕ) → length (convertedOutput to t) ≤ 1094
+unfolding convertedOutput
 converted-length to t = go (readText (other to) t .ok) (textHolds (other to) s) (formHolds to s)
   where
     s : State
@@ -88,7 +88,7 @@ converted-length to t = go (readText (other to) t .ok) (textHolds (other to) s) 
 
 -- ---- behind a call that was to write a text to a buffer, which has room
 
-holds : (form : Form) (b : List ℕ) → 1094 ≤ length b → holdsText form b ≡ true
+holds : (form : Form) (b : List ℕ) → 1094 ≤ length b → hasRoomFor form b ≡ true
 holds form b room = le-leb (lengthOf form) (length b) (omega (arith, form-room form))
 
 -- what is then done for its refusal, if any
@@ -149,8 +149,8 @@ module _ (form : Form) (b : List ℕ) (room : 1094 ≤ length b) {a : Answer} {x
 
   -- ---- converting
 
-  pub converted-put : (t : List ℕ) → a ≡ convertedAnswer form t b → x ≡ convertedBuffer form t b → Put b 0 (convertedText form t) after r
-  unfolding convertedAnswer convertedBuffer convertedText
+  pub converted-put : (t : List ℕ) → a ≡ convertedAnswer form t b → x ≡ convertedBuffer form t b → Put b 0 (convertedOutput form t) after r
+  unfolding convertedAnswer convertedBuffer convertedOutput
   converted-put t = go (readText (other form) t .ok) (canHold s) (formHolds (other form) s) (formHolds form s) refl refl
     where
       s : State

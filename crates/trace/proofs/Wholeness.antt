@@ -23,7 +23,8 @@ use Rattle.trace.specs.Answers.{refusedLine}
 use Rattle.trace.specs.Batches.{recordsOf, afterRecords, recordLines, afterInput, inputLines}
 use Rattle.trace.specs.Endings.{ending, leftOver}
 use Rattle.trace.specs.Sessions.{resetSession, readSession, textSession, fullPiece, continued, afterPiece, pieceLines, sessionEnding, afterPieces, piecesLines, allWritten}
-use Rattle.trace.specs.InPieces.{replayed, joined, AllFull, unread, begun, fromForm, fromText, InPieces}
+use Rattle.hart.specs.Saved.{readAnew}
+use Rattle.trace.specs.InPieces.{replayed, joined, AllFull, unread, begun, fromText, InPieces}
 use Rattle.trace.proofs.SavedTexts.{form-read}
 use Rattle.trace.proofs.Batching.{stopped-still}
 use Rattle.trace.proofs.Cutting.{records-cut, lines-cut}
@@ -56,8 +57,8 @@ text-read text = refl
 from-text : (text : List ℕ) (h : Hart) (map : Map) → fromText text ≡ handedBack h map Done → textSession text ≡ begun h map
 from-text text h map e = text-read text ∙ (λ j. readSession (e j))
 
-either-form : (form : Form) (text : List ℕ) → readText form text .ok ≡ true → fromText text ≡ fromForm form text
-either-form form text e = ap (λ (f : Form). fromForm f text) (form-read form text e)
+either-form : (form : Form) (text : List ℕ) → readText form text .ok ≡ true → fromText text ≡ readAnew form text
+either-form form text e = ap (λ (f : Form). readAnew f text) (form-read form text e)
 
 refused-text : (text : List ℕ) (n : ℕ) → fromText text .answer ≡ Refused n → (n ≡ 0 → ⊥) → (textSession text .more ≡ false) × (textSession text .refusal ≡ n)
 refused-text text n e z = (

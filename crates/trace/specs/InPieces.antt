@@ -13,7 +13,7 @@ use Rattle.hart.specs.declared.Stepped.{Stepped}
 use Rattle.hart.specs.Steps.{resetMapped, handedBack}
 use Rattle.text.specs.declared.Form.{Form}
 use Rattle.text.specs.Text.{readText}
-use Rattle.hart.specs.Saved.{restored}
+use Rattle.hart.specs.Saved.{readAnew}
 use Rattle.trace.specs.declared.Replay.{Replay}
 use Rattle.trace.specs.declared.Session.{Session}
 use Rattle.trace.specs.Answers.{refusedLine}
@@ -42,12 +42,9 @@ unread h map = record { hart = h; map = map; number = 0; stopped = false }
 abbrev pub begun : Hart → Map → Session
 begun h map = record { replay = unread h map; left = 0; more = true; refusal = 0 }
 
--- a text of a form read back, and a text whose length tells the form
-abbrev pub fromForm : Form → List ℕ → Stepped
-fromForm form text = restored form (resetMapped 0 .hart) (resetMapped 0 .map) text
-
+-- a text whose length tells the form, read back
 abbrev pub fromText : List ℕ → Stepped
-fromText text = fromForm (formByLength text) text
+fromText text = readAnew (formByLength text) text
 
 pub record InPieces (m : Memory) : Type 0 where
   -- full pieces and a shorter last one, from any session that has not ended
@@ -76,7 +73,7 @@ pub record InPieces (m : Memory) : Type 0 where
   -- the other is the hart and map of a text that is taken, and nothing read
   pub from-text : (text : List ℕ) (h : Hart) (map : Map) → fromText text ≡ handedBack h map Done → textSession text ≡ begun h map
   -- a text in either form is read in that form (02, [10])
-  pub either-form : (form : Form) (text : List ℕ) → readText form text .ok ≡ true → fromText text ≡ fromForm form text
+  pub either-form : (form : Form) (text : List ℕ) → readText form text .ok ≡ true → fromText text ≡ readAnew form text
   -- a refused text ends its session at once, with the number of the refusal
   pub refused-text : (text : List ℕ) (n : ℕ) → fromText text .answer ≡ Refused n → (n ≡ 0 → ⊥)
       → (textSession text .more ≡ false) × (textSession text .refusal ≡ n)

@@ -4,6 +4,7 @@ pub mod Answers
 pub mod WorkedLines
 pub mod Batches
 pub mod SavedTexts
+pub mod TextOutput
 pub mod Endings
 pub mod Sessions
 pub mod InPieces

@@ -15,11 +15,11 @@ use Rattle.hart.specs.declared.Hart.{Hart}
 use Rattle.hart.specs.Saved.{textFor, formHolds, byText}
 use Rattle.trace.specs.Answers.{refusedLine}
 
--- the form that a text is read in, which its length tells (our choice: 02 says no way). A text of neither length is refused in both
+-- the form that a text is read in, which its length tells (house: 02 names no way). A text of neither length is refused in both
 abbrev pub formByLength : List ℕ → Form
 formByLength text = cond (eqb (length text) (lengthOf Second)) Second First
 
--- the form that a state is written in: the first, or the second where saving in the first is refusal 12 (our choice)
+-- the form that a state is written in: the first, or the second where saving in the first is refusal 12 (house)
 abbrev pub formFor : State → Form
 formFor s = cond (firstFormHolds s) First Second
 
@@ -28,8 +28,8 @@ unfoldable pub stateText : Hart → List ℕ
 stateText h = cond (canHold (h .state)) (textFor (formFor (h .state)) h) (refusedLine 3)
 
 -- a text converted to a form, or the line of the refusal: 4 or 5 in reading it in the other form, 12 where the form cannot hold its state
-unfoldable pub convertedText : Form → List ℕ → List ℕ
-convertedText to text = byText (other to) text refusedLine (λ s. cond (formHolds to s) (textOf to (wordsOf s)) (refusedLine 12))
+unfoldable pub convertedOutput : Form → List ℕ → List ℕ
+convertedOutput to text = byText (other to) text refusedLine (λ s. cond (formHolds to s) (textOf to (wordsOf s)) (refusedLine 12))
 
 -- ---- behind a call that wrote a text of a form or was refused: what is then written, and the length of the text or of that line
 

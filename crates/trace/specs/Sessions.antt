@@ -11,7 +11,7 @@ use Rattle.map.specs.declared.Map.{Map}
 use Rattle.hart.specs.declared.Hart.{Hart}
 use Rattle.hart.specs.declared.Stepped.{Stepped}
 use Rattle.hart.specs.Steps.{resetMapped}
-use Rattle.hart.specs.Saved.{restored}
+use Rattle.hart.specs.Saved.{readAnew}
 use Rattle.trace.specs.declared.Replay.{Replay}
 use Rattle.trace.specs.declared.Session.{Session}
 use Rattle.trace.specs.declared.Fed.{Fed}
@@ -39,7 +39,7 @@ abbrev pub readSession : Stepped → Session
 readSession read = sessionFrom (read .hart) (read .map) (refusalOf (read .answer))
 
 unfoldable pub textSession : List ℕ → Session
-textSession text = readSession (restored (formByLength text) (resetMapped 0 .hart) (resetMapped 0 .map) text)
+textSession text = readSession (readAnew (formByLength text) text)
 
 -- a full piece has 1,024 records
 abbrev pub fullPiece : ℕ

@@ -10,7 +10,7 @@ ghost use lib.ListN.{length};
 ghost use lib.Seq.{sets};
 ghost use Rattle.steps.specs.Number.{refusalOf};
 ghost use Rattle.trace.specs.Buffers.{Put, writtenFront, writtenLength};
-ghost use Rattle.trace.specs.SavedTexts.{formByLength, formFor, stateText, convertedText, refusalText, outcomeLength};
+ghost use Rattle.trace.specs.SavedTexts.{formByLength, formFor, stateText, convertedOutput, refusalText, outcomeLength};
 
 // The form that a text is read in.
 pub(crate) fn form_by_length(text: &[u8]) -> Form
@@ -59,8 +59,8 @@ pub(crate) fn put_state(hart: Hart, out: &mut [u8]) -> usize
 
 // Converts a text to a form and writes it, or the refusal in its place, to the front of a buffer of at least 1,094 bytes. A smaller one stays as it was.
 pub fn write_converted(to: Form, text: &[u8], out: &mut [u8]) -> usize
-    ensures { λ r. ⌜ r ≡ writtenLength 1094 (convertedText to (now (text .entry))) (now (out .entry)) ⌝ }
-    ensures { λ _. ⌜ now (out .exit) ≡ writtenFront 1094 (convertedText to (now (text .entry))) (now (out .entry)) ⌝ }
+    ensures { λ r. ⌜ r ≡ writtenLength 1094 (convertedOutput to (now (text .entry))) (now (out .entry)) ⌝ }
+    ensures { λ _. ⌜ now (out .exit) ≡ writtenFront 1094 (convertedOutput to (now (text .entry))) (now (out .entry)) ⌝ }
     ensures { λ r. ⌜ r ≤ length (now (out .entry)) ⌝ }
 {
     if out.len() < 1094 {

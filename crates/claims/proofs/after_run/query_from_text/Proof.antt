@@ -2,14 +2,14 @@ use mathlib.Core.Path.{_≡_, ap, _∙_}
 use borrow.Author.Needs.{needs}
 use Rattle.paging.specs.Memory.{memoryAt}
 use Rattle.hart.specs.declared.Mapped.{Mapped}
-use Rattle.hart.specs.Saved.{restored}
-use Rattle.claims.specs.AfterRun.{stepsIn, readBack}
+use Rattle.hart.specs.Saved.{restored, readAnew}
+use Rattle.claims.specs.AfterRun.{stepsIn}
 use Rattle.claims.proofs.AfterRun.{text-asked, text-refused}
 use Rattle.claims.proofs.after_run.query_from_text.Statement.{statement}
 use Rattle.claims.proofs.after_run.query_from_text.Tie as tie
 
 -- what was read of the text
-known : (c : tie.After-restore) → let a = c .before .before .before .before .before .before .before .args in c .restore .result ≡ readBack (a .form) (a .text .now)
+known : (c : tie.After-restore) → let a = c .before .before .before .before .before .before .before .args in c .restore .result ≡ readAnew (a .form) (a .text .now)
 known c =
     let z = c .before .before .before in
     let a = z .before .before .before .before .args in

@@ -1,4 +1,4 @@
-use Rattle.trace.specs.SavedTexts.{convertedText}
+use Rattle.trace.specs.SavedTexts.{convertedOutput}
 use Rattle.trace.proofs.Writing.{not-written, written}
 use Rattle.trace.proofs.SavedTexts.{converted-length, converted-put}
 use borrow.Author.Needs.{needs}
@@ -8,7 +8,7 @@ use Rattle.trace.proofs.saved.write_converted.Tie as tie
 returns : tie.Need-returns
 returns c =
     let a = c .before .before .before .args in
-    not-written 1094 (convertedText (a .to) (a .text .now)) (a .out .now) (c .if1 .taken)
+    not-written 1094 (convertedOutput (a .to) (a .text .now)) (a .out .now) (c .if1 .taken)
 
 returns-2 : tie.Need-returns-2
 returns-2 c =
@@ -17,7 +17,7 @@ returns-2 c =
     let e = v .before .before in
     let a = e .before .before .before .args in
     let t = a .text .now in
-    written 1094 (convertedText (a .to) t) (a .out .now) (p .put-refusal .last .1 .1 .0) (p .put-refusal .result) (e .if1 .left) (converted-length (a .to) t)
+    written 1094 (convertedOutput (a .to) t) (a .out .now) (p .put-refusal .last .1 .1 .0) (p .put-refusal .result) (e .if1 .left) (converted-length (a .to) t)
     (converted-put (a .to) (a .out .now) (e .if1 .left) (p .put-refusal .ensures) t (v .convert .ensures .0) (v .convert .ensures .1 .1))
 
 pub write-converted-spec : {M : Type 1} → statement M
