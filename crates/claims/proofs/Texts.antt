@@ -11,7 +11,7 @@ use lib.Seq.{take-at}
 use Rattle.bits.specs.Lists.{elements, Words}
 use Rattle.bits.proofs.Conjunction.{both}
 use Rattle.steps.specs.declared.Answer.{Answer}
-use Rattle.steps.specs.declared.Answer.the-variants.{Done, DoneValue, DoneFlag, Granted, Trapped, Refused}
+use Rattle.steps.specs.declared.Answer.the-variants.{Done, Refused}
 use Rattle.steps.specs.Number.{refusalOf}
 use Rattle.state.specs.declared.State.{State}
 use Rattle.state.specs.Hold.{canHold}
@@ -28,6 +28,7 @@ use Rattle.hart.specs.declared.Hart.{Hart}
 use Rattle.hart.specs.declared.Stepped.{Stepped}
 use Rattle.hart.specs.Steps.{mapFor, hartWith, handedBack}
 use Rattle.hart.specs.Saved.{textFor, formHolds, textHolds, savedAnswer, savedBuffer, stateIn, byText, restoredDone, restored, convertedAnswer, convertedBuffer}
+use Rattle.hart.proofs.Numbered.{isDone}
 use Rattle.claims.specs.Refusals.{unheldBy}
 use Rattle.claims.proofs.RefusalLaws.{unheld}
 use Rattle.claims.specs.Texts.{Typed, textAt, SavesAndRestores, ReadsAs, Lossless, converted, Conversion, resaved}
@@ -91,14 +92,6 @@ saves-and-restores form h t p q g map b room =
     (saved-done form h b p q room, ap (restored form g map) (saved-front form h b p q room) ∙ text-restored form h g map t p q)
 
 -- ---- what a text reads back as
-
-abbrev isDone : Answer → Bool
-isDone Done = true
-isDone (DoneValue v) = false
-isDone (DoneFlag b) = false
-isDone (Granted entry) = false
-isDone (Trapped trap level entry) = false
-isDone (Refused number) = false
 
 -- a text that reads back is the text of words, whose state a hart can hold, and so can the form
 record Read (form : Form) (text : List ℕ) (h : Hart) (m : Map) : Type 0 where
@@ -267,10 +260,6 @@ conversion =
     }
 
 -- ---- saving to a buffer that has room, and reading the text at its front back
-
-pub longest : (form : Form) → lengthOf form ≤ 1094
-longest First = omega arith
-longest Second = omega arith
 
 module _ (form : Form) (h : Hart) (map : Map) (b : List ℕ) (t : Typed (h .state)) (room : lengthOf form ≤ length b) where
   -- by the answer of the save, and its refusal

@@ -62,6 +62,10 @@ unfolding bytesOf firstKeys keysOf linesLength
 keys-length First = refl
 keys-length Second = refl
 
+pub longest : (form : Form) → lengthOf form ≤ 1094
+longest First = omega arith
+longest Second = omega arith
+
 pub head-length : (form : Form) → length (headOf form) ≡ headLength form
 unfolding bytesOf headOf lineOf hexDigits
 head-length First = refl

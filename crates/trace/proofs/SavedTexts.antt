@@ -20,7 +20,7 @@ use Rattle.state.specs.Words.{wordsOf}
 use Rattle.text.specs.declared.Form.{Form}
 use Rattle.text.specs.declared.Form.the-variants.{First, Second}
 use Rattle.text.specs.Text.{other, textOf, lengthOf, hasRoomFor, writtenTo, readText}
-use Rattle.text.proofs.Template.{text-length}
+use Rattle.text.proofs.Template.{text-length, longest}
 use Rattle.text.proofs.Laws.{text-read, read-as}
 use Rattle.hart.specs.declared.Hart.{Hart}
 use Rattle.hart.specs.Steps.{hartWith}
@@ -51,10 +51,6 @@ form-fits s = go (firstFormHolds s) refl
     go true e = e
     go false e = refl
 
-form-room : (form : Form) → lengthOf form ≤ 1094
-form-room First = omega arith
-form-room Second = omega arith
-
 -- ---- lengths
 
 refused-length : (n : ℕ) → length (refusedLine n) ≤ 1094
@@ -62,7 +58,7 @@ unfolding bytesOf
 refused-length n = omega (arith, numbered-length (bytesOf "refused ") n)
 
 text-fits : (form : Form) (ws : List ℕ) → length (textOf form ws) ≤ 1094
-text-fits form ws = omega (arith, text-length form ws, form-room form)
+text-fits form ws = omega (arith, text-length form ws, longest form)
 
 pub state-length : (h : Hart) → length (stateText h) ≤ 1094
 unfolding stateText
@@ -89,7 +85,7 @@ converted-length to t = go (readText (other to) t .ok) (textHolds (other to) s) 
 -- ---- behind a call that was to write a text to a buffer, which has room
 
 holds : (form : Form) (b : List ℕ) → 1094 ≤ length b → hasRoomFor form b ≡ true
-holds form b room = le-leb (lengthOf form) (length b) (omega (arith, form-room form))
+holds form b room = le-leb (lengthOf form) (length b) (omega (arith, longest form))
 
 -- what is then done for its refusal, if any
 abbrev pub Outcome : Form → Answer → List ℕ → List ℕ → ℕ → Type 0

@@ -7,7 +7,7 @@ use native.Mathlib.Omega.{arith}
 use lib.Dec.{leb}
 use lib.ListN.{length, drop}
 use Rattle.steps.specs.declared.Answer.{Answer}
-use Rattle.steps.specs.declared.Answer.the-variants.{Done, DoneValue, DoneFlag, Granted, Trapped, Refused}
+use Rattle.steps.specs.declared.Answer.the-variants.{Done, Refused}
 use Rattle.steps.specs.Number.{refusalOf}
 use Rattle.state.specs.declared.State.{State}
 use Rattle.state.specs.Hold.{canHold}
@@ -17,17 +17,10 @@ use Rattle.text.specs.declared.Form.the-variants.{First, Second}
 use Rattle.text.specs.Text.{other, textOf, lengthOf, writtenTo, readText}
 use Rattle.hart.specs.declared.Hart.{Hart}
 use Rattle.hart.specs.Saved.{textFor, formHolds, savedAnswer, savedBuffer, stateIn, convertedAnswer, convertedBuffer}
+use Rattle.hart.proofs.Numbered.{isDone}
 use Rattle.trace.specs.Answers.{refusedLine}
 use Rattle.trace.specs.SavedTexts.{stateText, convertedOutput}
 use Rattle.trace.specs.TextOutput.{TextOutput}
-
-abbrev isDone : Answer → Bool
-isDone Done = true
-isDone (DoneValue value) = false
-isDone (DoneFlag flag) = false
-isDone (Granted entry) = false
-isDone (Trapped trap level entry) = false
-isDone (Refused number) = false
 
 -- ---- the end state
 

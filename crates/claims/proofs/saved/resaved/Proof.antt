@@ -6,7 +6,8 @@ use mir.Syntax.{w64}
 use mir.Val.{Fits}
 use lib.ListN.{getD}
 use Rattle.claims.specs.Texts.{Typed}
-use Rattle.claims.proofs.Texts.{longest, resaved-refused, resaved-done}
+use Rattle.text.proofs.Template.{longest}
+use Rattle.claims.proofs.Texts.{resaved-refused, resaved-done}
 use Rattle.claims.proofs.saved.resaved.Statement.{statement}
 use Rattle.claims.proofs.saved.resaved.Tie as tie
 
