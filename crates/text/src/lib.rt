@@ -15,6 +15,9 @@ pub enum Form {
     Second,
 }
 
+// The bytes of the line that tells the second form.
+const HEAD: usize = 22;
+
 // The second form's text of words that are all 0. The first form has the lines behind the first one, without the last two.
 const ZEROS: [u8; 1094] = *b"form=0000000000000002\n\
     mode=0000000000000000\n\
@@ -126,7 +129,7 @@ fn head_length(form: Form) -> usize
 {
     match form {
         Form::First => 0,
-        Form::Second => 22,
+        Form::Second => HEAD,
     }
 }
 
@@ -151,7 +154,7 @@ pub fn write(form: Form, words: &[u64], buffer: &mut [u8]) -> bool
         return false;
     }
     let head = head_length(form);
-    let start = 22 - head;
+    let start = HEAD - head;
     let end = start + size;
     bytes::copy(&ZEROS[start..end], buffer);
     let count = line_count(form);
@@ -193,9 +196,9 @@ pub fn read(form: Form, text: &[u8], words: &mut [u64; 43]) -> bool
     }
     let head = head_length(form);
     let count = line_count(form);
-    let start = 22 - head;
-    let headed = lines::has_key(text, 0, &ZEROS[start..22]);
-    let lined = read_lines(&ZEROS[22..], &PLACES[0..count], &text[head..], words);
+    let start = HEAD - head;
+    let headed = lines::has_key(text, 0, &ZEROS[start..HEAD]);
+    let lined = read_lines(&ZEROS[HEAD..], &PLACES[0..count], &text[head..], words);
     if headed & lined {
         return true;
     }
