@@ -8,7 +8,7 @@
  * says, whatever the slices hold and however long they are. Nothing is kept
  * from one call to the next.
  *
- * A hart is 43 words, first those of the saved text in its order: mode pc
+ * A hart is 43 words, first those of form 1 of a saved text: mode pc
  * mstatus medeleg mideleg mie mip lines mtvec mcounteren mcountinhibit mscratch
  * mepc mcause mtval stvec scounteren sscratch sepc scause stval mcycle minstret
  * pmpcfg0 pmpcfg2 pmpaddr0 .. pmpaddr15; then satp and the grain. mip has the
@@ -23,6 +23,10 @@
  * accesses that Sv39 translates. A base that is no multiple of 8, or that with 8
  * added for each word is above 2^56, is refusal 13 at steps 14 to 16. A query is
  * about a physical address, so it is lent no memory.
+ *
+ * A saved text has one of two forms. Form 1 is 41 lines, 1027 bytes: it has no
+ * place for satp, the grain, SUM and a delegated page fault. Form 2 has all of
+ * them: a line that tells the form, those 41 lines, satp and the grain, 1094 bytes.
  *
  * A map is 100 words: its count, then first byte, last byte and owner of each
  * of 33 ranges. An owner is an entry, 0 to 15, or 16 for none.
@@ -53,11 +57,14 @@ extern "C" {
 #define TEGRWYLLT_MAP_WORDS 100
 #define TEGRWYLLT_STEP_WORDS 3
 #define TEGRWYLLT_ANSWER_WORDS 4
-#define TEGRWYLLT_TEXT_BYTES 1027
+#define TEGRWYLLT_FIRST_FORM 1
+#define TEGRWYLLT_SECOND_FORM 2
+#define TEGRWYLLT_FIRST_TEXT_BYTES 1027
+#define TEGRWYLLT_SECOND_TEXT_BYTES 1094
 #define TEGRWYLLT_NO_OWNER 16
 #define TEGRWYLLT_NO_ENTRY 16
 
-/* What save and restore give where the hart or the map has another length. */
+/* What save, restore and convert give where the form is neither 1 nor 2, or the hart or the map has another length. */
 #define TEGRWYLLT_MISFIT UINT64_MAX
 
 /*
@@ -105,20 +112,33 @@ uint64_t tegrwyllt_query(const uint64_t *hart, size_t hart_length,
                          uint64_t *answer, size_t answer_length);
 
 /*
- * Writes the hart's text to the first 1027 bytes of a buffer. Gives 0; or the
- * refusal's number, 3, 6 or 12 (satp, SUM, a wide medeleg or a G other than 0 has no
- * place in the text); or TEGRWYLLT_MISFIT. Unless 0, nothing is changed.
+ * Writes the hart's text in a form, 1 or 2, to the front of a buffer. Gives 0; or the
+ * refusal's number: 3; 6, the buffer is shorter than the form; 12, form 1 has no place
+ * for satp, the grain, SUM or a bit of medeleg that is not 0; or TEGRWYLLT_MISFIT.
+ * Unless 0, nothing is changed.
  */
-uint64_t tegrwyllt_save(const uint64_t *hart, size_t hart_length,
+uint64_t tegrwyllt_save(uint64_t form,
+                        const uint64_t *hart, size_t hart_length,
                         uint8_t *text, size_t text_length);
 
 /*
- * Reads a text back as a hart, with satp 0 and grain 0, and its map. Gives 0; or the
- * refusal's number, 4 or 5; or TEGRWYLLT_MISFIT. Unless 0, nothing is changed.
+ * Reads a text of a form, 1 or 2, back as a hart and its map; with form 1 satp and the
+ * grain are 0. Gives 0; or the refusal's number, 4 or 5; or TEGRWYLLT_MISFIT. Unless 0,
+ * nothing is changed.
  */
-uint64_t tegrwyllt_restore(const uint8_t *text, size_t text_length,
+uint64_t tegrwyllt_restore(uint64_t form,
+                           const uint8_t *text, size_t text_length,
                            uint64_t *hart, size_t hart_length,
                            uint64_t *map, size_t map_length);
+
+/*
+ * Reads a text of the other form, and writes it in the form asked for, 1 or 2, to the
+ * front of a buffer. Gives 0; or the refusal's number, 4, 5, 6 or 12, the first that
+ * applies; or TEGRWYLLT_MISFIT. Unless 0, nothing is changed.
+ */
+uint64_t tegrwyllt_convert(uint64_t to,
+                           const uint8_t *text, size_t text_length,
+                           uint8_t *buffer, size_t buffer_length);
 
 #ifdef __cplusplus
 }

@@ -6,7 +6,7 @@
 
 #include "tegrwyllt.h"
 
-enum { HART = 43, MAP = 100, ANSWER = 4, TEXT = 1027 };
+enum { HART = 43, MAP = 100, ANSWER = 4, TEXT = 1027, SECOND = 1094 };
 
 static void expect(int holds, const char *what) {
     if (!holds) {
@@ -55,12 +55,12 @@ static void grains(void) {
     expect(answers(given + 20, 1, ones, 0, 0), "the stored value is kept");
     expect(hart[25] == 4 && map[0] == 3 && map[4] == 0x10 && map[5] == 0x1F && map[6] == 0, "NAPOT 4 reads 5: 16 bytes");
     expect(tegrwyllt_query(hart, HART, map, MAP, 1, 1, 0x18, 8, answer, ANSWER) == 1 && answers(answer, 6, 5, 0, 0), "entry 0 denies S there");
-    expect(tegrwyllt_save(hart, HART, text, TEXT) == 12, "a grain has no place in the text: refusal 12");
+    expect(tegrwyllt_save(1, hart, HART, text, TEXT) == 12, "a grain has no place in the first form: refusal 12");
 
     /* Step 0 keeps the grain; one above 10 can be held by no hart, and becomes 0. */
     expect(tegrwyllt_step(hart, HART, map, MAP, none, 0, 0, 0, 0, 0, answer, ANSWER) == 1 && hart[GRAIN] == 2, "reset keeps the grain");
     hart[GRAIN] = 11;
-    expect(tegrwyllt_save(hart, HART, text, TEXT) == 3, "refusal 3, before 12");
+    expect(tegrwyllt_save(1, hart, HART, text, TEXT) == 3, "refusal 3, before 12");
     expect(tegrwyllt_step(hart, HART, map, MAP, none, 0, 0, 11, 0, 0, answer, ANSWER) == 1 && answers(answer, 5, 3, 0, 0), "and at a step");
     expect(tegrwyllt_step(hart, HART, map, MAP, none, 0, 0, 0, 0, 0, answer, ANSWER) == 1 && hart[GRAIN] == 0, "reset");
 }
@@ -108,12 +108,27 @@ int main(void) {
     uint8_t text[TEXT + 1];
     uint64_t back[HART], ranges[MAP];
     text[TEXT] = 0x5A;
-    expect(tegrwyllt_save(hart, HART, text, TEXT - 1) == 6, "a buffer of 1,026 bytes is refusal 6");
-    expect(tegrwyllt_save(hart, HART, text, TEXT + 1) == 0 && text[TEXT] == 0x5A, "saved");
+    expect(tegrwyllt_save(1, hart, HART, text, TEXT - 1) == 6, "a buffer of 1,026 bytes is refusal 6");
+    expect(tegrwyllt_save(1, hart, HART, text, TEXT + 1) == 0 && text[TEXT] == 0x5A, "saved");
     expect(memcmp(text, "mode=0000000000000003\n", 22) == 0, "the first line");
-    expect(tegrwyllt_restore(text, TEXT + 1, back, HART, ranges, MAP) == 4, "1,028 bytes are refusal 4");
-    expect(tegrwyllt_restore(text, TEXT, back, HART, ranges, MAP) == 0, "read back");
+    expect(tegrwyllt_restore(1, text, TEXT + 1, back, HART, ranges, MAP) == 4, "1,028 bytes are refusal 4");
+    expect(tegrwyllt_restore(1, text, TEXT, back, HART, ranges, MAP) == 0, "read back");
     expect(memcmp(hart, back, sizeof hart) == 0 && memcmp(map, ranges, sizeof map) == 0, "the same hart and map");
+
+    /* So does it to the second form and back. */
+    uint8_t second[SECOND + 1], again[TEXT];
+    second[SECOND] = 0x5A;
+    expect(tegrwyllt_convert(2, text, TEXT, second, SECOND - 1) == 6, "a buffer of 1,093 bytes is refusal 6");
+    expect(tegrwyllt_convert(2, text, TEXT, second, SECOND + 1) == 0 && second[SECOND] == 0x5A, "converted");
+    expect(memcmp(second, "form=0000000000000002\n", 22) == 0 && memcmp(second + 22, text, TEXT) == 0, "the form, then the 41 lines");
+    expect(memcmp(second + 22 + TEXT, "satp=0000000000000000\ngrain=0000000000000000\n", 45) == 0, "then satp and the grain");
+    expect(tegrwyllt_convert(1, second, SECOND, again, TEXT) == 0 && memcmp(again, text, TEXT) == 0, "and back");
+    expect(tegrwyllt_convert(2, second, SECOND, again, TEXT) == 4, "a text of the same form is refusal 4");
+    expect(tegrwyllt_restore(2, text, TEXT, back, HART, ranges, MAP) == 4, "the other form is refusal 4");
+    expect(tegrwyllt_save(0, hart, HART, text, TEXT) == TEGRWYLLT_MISFIT, "there is no form 0");
+    expect(tegrwyllt_restore(3, text, TEXT, back, HART, ranges, MAP) == TEGRWYLLT_MISFIT, "nor 3");
+    expect(tegrwyllt_convert(3, text, TEXT, again, TEXT) == TEGRWYLLT_MISFIT, "nor to convert to");
+    expect(memcmp(again, text, TEXT) == 0 && memcmp(hart, back, sizeof hart) == 0, "and nothing is changed");
 
     /* Slices of another length change nothing. */
     expect(tegrwyllt_step(hart, HART - 1, map, MAP, none, 0, 0, 0, 0, 0, answer, ANSWER) == 0, "42 words are no hart");
@@ -138,8 +153,11 @@ int main(void) {
     hart[2] = UINT64_C(0xA00020000);
     expect(tegrwyllt_step(hart, HART, map, MAP, tables, TABLES, base, 16, 0x3FFC, 8, answer, ANSWER) == 1, "a store across");
     expect(answers(answer, 4, 15, 3, 16) && hart[MTVAL] == 0x4000, "a page fault of its second part");
-    expect(tegrwyllt_save(hart, HART, text, TEXT) == 12, "satp has no place in the text: refusal 12");
-    expect(tegrwyllt_save(hart, HART, text, TEXT - 1) == 6, "after 6");
+    expect(tegrwyllt_save(1, hart, HART, text, TEXT) == 12, "satp has no place in the first form: refusal 12");
+    expect(tegrwyllt_save(1, hart, HART, text, TEXT - 1) == 6, "after 6");
+    expect(tegrwyllt_save(2, hart, HART, second, SECOND) == 0, "it has one in the second");
+    expect(tegrwyllt_restore(2, second, SECOND, back, HART, ranges, MAP) == 0 && memcmp(hart, back, sizeof hart) == 0, "and is read back");
+    expect(tegrwyllt_convert(1, second, SECOND, again, TEXT) == 12, "converting has no other place for it");
     grains();
     puts("header: every function answers as the scope document says");
     return 0;

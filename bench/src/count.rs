@@ -7,20 +7,20 @@ use std::hint::black_box;
 use crate::mixes::{MIXES, Mix};
 use crate::queries::Queries;
 use crate::steps;
-use crate::texts::Texts;
+use crate::texts::{CALLS, Call, Texts};
 
-/// `work` is `query`, `save`, `restore` or a mix's number.
+/// `work` is `query`, the word of a call on texts, or a mix's number.
 pub fn count(work: &str, contender: &str, times: &str) -> Result<(), Box<dyn Error>> {
     let times = times.parse()?;
-    match work {
-        "query" => query(contender, times),
-        "save" | "restore" => text(work, contender, times),
-        number => MIXES
-            .iter()
-            .find(|mix| mix.number.to_string() == number)
-            .and_then(|mix| step(mix, contender, times)),
-    }
-    .ok_or_else(|| format!("no contender {contender} at {work}").into())
+    let mix = || MIXES.iter().find(|mix| mix.number.to_string() == work);
+    let done = if work == "query" {
+        query(contender, times)
+    } else if let Some(call) = CALLS.iter().find(|call| call.word == work) {
+        text(call, contender, times)
+    } else {
+        mix().and_then(|mix| step(mix, contender, times))
+    };
+    done.ok_or_else(|| format!("no contender {contender} at {work}").into())
 }
 
 fn step(mix: &Mix, contender: &str, times: usize) -> Option<()> {
@@ -40,14 +40,12 @@ fn query(contender: &str, times: usize) -> Option<()> {
     Some(())
 }
 
-fn text(work: &str, contender: &str, times: usize) -> Option<()> {
-    let texts = Texts::new();
-    match (work, contender) {
-        ("save", "rust") => texts.save_rust(times),
-        ("save", "product") => texts.save_product(times),
-        ("restore", "rust") => texts.restore_rust(times),
-        ("restore", "product") => texts.restore_product(times),
+fn text(call: &Call, contender: &str, times: usize) -> Option<()> {
+    let work = match contender {
+        "rust" => call.rust,
+        "product" => call.product,
         _ => return None,
-    }
+    };
+    work(&Texts::new(), times);
     Some(())
 }

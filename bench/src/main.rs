@@ -97,7 +97,7 @@ fn report_queries(rounds: u32) {
 }
 
 fn report_texts(rounds: u32) {
-    println!("| Texts | Rust | tegrwyllt_save, tegrwyllt_restore |");
+    println!("| Texts | Rust | tegrwyllt_save, tegrwyllt_restore, tegrwyllt_convert |");
     println!("|---|---|---|");
     for row in texts::rows(rounds) {
         println!("| {} | {:.0} | {} |", row.name, row.rust, ratio(row.product, row.rust));

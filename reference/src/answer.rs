@@ -13,17 +13,17 @@ pub enum Refusal {
     Argument = 2,
     /// The state given is not one a hart can hold.
     State = 3,
-    /// The text is not in the saved form.
+    /// The text is not in the form asked for.
     Form = 4,
     /// The text has the form, but no hart can hold its state.
     TextState = 5,
-    /// The buffer for saving is too short.
+    /// The buffer is too short for the form asked for.
     Buffer = 6,
     /// The map does not say who owns each byte.
     Map = 7,
     /// A record of a trace is broken.
     Record = 8,
-    /// The state has no text in the saved form.
+    /// The state has no text in the form asked for.
     NoText = 12,
     /// The words lent are not at a lawful address.
     Memory = 13,

@@ -59,6 +59,7 @@ unsafe extern "C" {
     ) -> u64;
 
     fn tegrwyllt_save(
+        form: u64,
         hart: *const u64,
         hart_length: usize,
         text: *mut u8,
@@ -66,12 +67,21 @@ unsafe extern "C" {
     ) -> u64;
 
     fn tegrwyllt_restore(
+        form: u64,
         text: *const u8,
         text_length: usize,
         hart: *mut u64,
         hart_length: usize,
         map: *mut u64,
         map_length: usize,
+    ) -> u64;
+
+    fn tegrwyllt_convert(
+        to: u64,
+        text: *const u8,
+        text_length: usize,
+        buffer: *mut u8,
+        buffer_length: usize,
     ) -> u64;
 }
 
@@ -164,15 +174,19 @@ pub fn query(hart: &[u64], map: &[u64], question: Question, answer: &mut [u64]) 
     }
 }
 
-/// Saves a hart; 0, or the number of the refusal.
-pub fn save(hart: &[u64], text: &mut [u8]) -> u64 {
-    unsafe { tegrwyllt_save(hart.as_ptr(), hart.len(), text.as_mut_ptr(), text.len()) }
+/// What the calls on texts give where a form or a length is none there is.
+pub const MISFIT: u64 = u64::MAX;
+
+/// Saves a hart in a form; 0, the number of the refusal, or `MISFIT`.
+pub fn save(form: u64, hart: &[u64], text: &mut [u8]) -> u64 {
+    unsafe { tegrwyllt_save(form, hart.as_ptr(), hart.len(), text.as_mut_ptr(), text.len()) }
 }
 
-/// Reads a text back; 0, or the number of the refusal.
-pub fn restore(text: &[u8], hart: &mut [u64], map: &mut [u64]) -> u64 {
+/// Reads a text of a form back; gives the same.
+pub fn restore(form: u64, text: &[u8], hart: &mut [u64], map: &mut [u64]) -> u64 {
     unsafe {
         tegrwyllt_restore(
+            form,
             text.as_ptr(),
             text.len(),
             hart.as_mut_ptr(),
@@ -181,4 +195,9 @@ pub fn restore(text: &[u8], hart: &mut [u64], map: &mut [u64]) -> u64 {
             map.len(),
         )
     }
+}
+
+/// Writes a text of the other form in this one; gives the same.
+pub fn convert(to: u64, text: &[u8], buffer: &mut [u8]) -> u64 {
+    unsafe { tegrwyllt_convert(to, text.as_ptr(), text.len(), buffer.as_mut_ptr(), buffer.len()) }
 }

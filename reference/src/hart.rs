@@ -1,7 +1,6 @@
-//! The registers of one hart, in the order of the saved text; satp and the grain,
-//! which that lacks, are the last.
+//! The registers of one hart, in the order of the lines of a saved text.
 
-/// Number of words of a hart: one for each line of the saved text, satp, and the grain.
+/// Number of words of a hart: one for each register, and the grain.
 pub const HART_WORDS: usize = 43;
 
 pub const USER: u64 = 0;

@@ -1,5 +1,6 @@
 //! What a hart can hold.
 
+use crate::form::Form;
 use crate::grain::COARSEST;
 use crate::hart::{Hart, MACHINE, SUPERVISOR, USER};
 use crate::status;
@@ -22,8 +23,8 @@ pub mod mask {
     /// MODE 0 or 8, and PPN.
     pub const SATP: u64 = 1 << 63 | ((1 << 44) - 1);
 
-    /// What the saved text has room for.
-    pub mod text {
+    /// What the first form of a text has room for.
+    pub mod first_form {
         pub const MSTATUS: u64 = 0x7A_19AA;
         pub const MEDELEG: u64 = 0x3FF;
     }
@@ -44,12 +45,13 @@ impl Hart {
             && self.can_hold_protection()
     }
 
-    /// Whether the saved text can hold what this hart does.
-    pub fn has_text(&self) -> bool {
-        self.satp == 0
-            && self.grain == 0
-            && within(self.mstatus, status::FIXED | mask::text::MSTATUS)
-            && within(self.medeleg, mask::text::MEDELEG)
+    /// Whether a text of this form can hold what this hart does.
+    pub fn has_text(&self, form: Form) -> bool {
+        form == Form::Second
+            || self.satp == 0
+                && self.grain == 0
+                && within(self.mstatus, status::FIXED | mask::first_form::MSTATUS)
+                && within(self.medeleg, mask::first_form::MEDELEG)
     }
 
     fn can_hold_addresses(&self) -> bool {

@@ -10,6 +10,7 @@ pub mod boundaries;
 pub mod capi;
 pub mod csr;
 mod execute;
+mod form;
 pub mod generate;
 mod grain;
 mod hart;
@@ -33,6 +34,7 @@ mod trap;
 
 pub use answer::{ANSWER_WORDS, Answer, Cause, Entry, Refusal, Ruling, Verdict};
 pub use execute::{step, step_judged_by};
+pub use form::{Form, KEYS};
 pub use grain::{COARSEST, make};
 pub use hart::{HART_WORDS, Hart, MACHINE, Mode, SUPERVISOR, USER};
 pub use holdable::mask;
@@ -42,6 +44,6 @@ pub use memory_text::{LONGEST_MEMORY_TEXT, MOST_WORDS, read_memory, write_memory
 pub use protection::Access;
 pub use query::query;
 pub use record::{RECORD_LENGTH, read_record, write_record};
-pub use replay::{fill, replay};
+pub use replay::{fill, replay, restore_start};
 pub use step::{LAST_STEP, STEP_WORDS, Step};
-pub use text::{KEYS, TEXT_LENGTH, form, restore, save};
+pub use text::{convert, restore, save};

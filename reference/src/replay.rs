@@ -4,13 +4,14 @@ use std::io::{self, Read, Write};
 
 use crate::answer::{Answer, Cause, Entry, Refusal};
 use crate::execute::step;
+use crate::form::Form;
 use crate::hart::{Hart, Mode};
 use crate::hexadecimal::word_digits;
 use crate::map::{Map, NONE, Range};
 use crate::memory::Memory;
 use crate::record::{RECORD_LENGTH, read_record};
 use crate::step::Step;
-use crate::text::{TEXT_LENGTH, restore, save};
+use crate::text::{restore, save};
 
 /// Replays the records of `input` from a saved text, or from reset, with words lent
 /// to each, and writes what it answers. It holds one record at a time, so lend it
@@ -21,7 +22,7 @@ pub fn replay(
     input: &mut impl Read,
     output: &mut impl Write,
 ) -> io::Result<()> {
-    let (mut hart, mut map) = match start.map(restore) {
+    let (mut hart, mut map) = match start.map(restore_start) {
         None => (Hart::reset(), Map::reset()),
         Some(Ok(started)) => started,
         Some(Err(refusal)) => return writeln!(output, "refused {}", refusal.number()),
@@ -30,6 +31,11 @@ pub fn replay(
     write_state(output, &hart)?;
     map.listed().iter().try_for_each(|range| write_range(output, range))?;
     writeln!(output, "left {left}")
+}
+
+/// Reads a text of either form, which its length tells.
+pub fn restore_start(text: &[u8]) -> Result<(Hart, Map), Refusal> {
+    restore(Form::of_length(text.len()), text)
 }
 
 /// Gives the number of bytes left over, fewer than a record.
@@ -70,13 +76,12 @@ pub fn fill(input: &mut impl Read, buffer: &mut [u8]) -> io::Result<usize> {
     Ok(length)
 }
 
-/// The saved text, or one line where there is none of this state.
+/// The text of a state that can be held: of the first form that has one.
 fn write_state(output: &mut impl Write, hart: &Hart) -> io::Result<()> {
-    let mut text = [0; TEXT_LENGTH];
-    match save(hart, &mut text) {
-        Ok(()) => output.write_all(&text),
-        Err(refusal) => writeln!(output, "refused {}", refusal.number()),
-    }
+    let mut text = [0; Form::LONGEST];
+    let saved = Form::ALL.into_iter().find(|&form| save(form, hart, &mut text).is_ok());
+    let form = saved.expect("the second form has room for every state");
+    output.write_all(&text[..form.length()])
 }
 
 /// The line of an answer. A trap tells its entry after an access alone: the cause

@@ -3,7 +3,8 @@
 use reference::protection::MEMORY;
 use reference::random::Random;
 use reference::{
-    Access, Answer, Hart, Map, Memory, Mode, Step, Verdict, form, generate, query, restore, step,
+    Access, Answer, Form, Hart, Map, Memory, Mode, Step, Verdict, generate, query, restore, save,
+    step,
 };
 
 const STATES: u64 = 20_000;
@@ -115,8 +116,12 @@ fn a_query_on_the_map_of_the_registers_is_the_byte_rule() {
 #[test]
 fn texts_come_back() {
     for (_, hart) in states() {
-        let hart = generate::narrowed(&hart);
-        assert_eq!(restore(&form(&hart.to_words())), Ok((hart, hart.compile())));
+        for (form, hart) in [(Form::First, generate::narrowed(&hart)), (Form::Second, hart)] {
+            let mut text = vec![0; form.length()];
+            assert_eq!(save(form, &hart, &mut text), Ok(()));
+            assert_eq!(text, form.text(&hart.to_words()));
+            assert_eq!(restore(form, &text), Ok((hart, hart.compile())));
+        }
     }
 }
 

@@ -5,7 +5,7 @@ mod common;
 
 use common::*;
 use reference::{
-    Access, Answer, Hart, MACHINE, Map, Mode, Refusal, SUPERVISOR, USER, Verdict, query, save,
+    Access, Answer, Form, Hart, MACHINE, Map, Mode, Refusal, SUPERVISOR, USER, Verdict, query, save,
 };
 
 fn damaged() -> Hart {
@@ -22,7 +22,9 @@ fn b1_the_state_is_judged_first_but_not_at_reset() {
     assert_eq!((hart, map, answer), (Hart::reset(), Map::reset(), Answer::Done));
     let verdict = query(&damaged(), &odd_map(), Mode::User, Access::Load, 0, 3);
     assert_eq!(verdict, Verdict::Refused(Refusal::State));
-    assert_eq!(save(&damaged(), &mut []), Err(Refusal::State));
+    for form in Form::ALL {
+        assert_eq!(save(form, &damaged(), &mut []), Err(Refusal::State));
+    }
 }
 
 #[test]
@@ -52,7 +54,7 @@ fn b2_a_refusal_changes_nothing() {
         assert_eq!(run(&hart, number, a, b), (hart, refused(refusal)));
     }
     let mut buffer = [0xEE; 1026];
-    assert_eq!(save(&hart, &mut buffer), Err(Refusal::Buffer));
+    assert_eq!(save(Form::First, &hart, &mut buffer), Err(Refusal::Buffer));
     assert_eq!(buffer, [0xEE; 1026]);
 }
 

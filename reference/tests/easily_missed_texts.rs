@@ -1,12 +1,22 @@
-//! Rules easily missed about texts and traces, numbered as in the list of
-//! readings.
+//! Rules easily missed about texts of the first form and about traces, numbered as in
+//! the list of readings.
 
 use reference::{
-    Hart, KEYS, Map, Memory, Refusal, Step, TEXT_LENGTH, form, read_record, replay, restore, save,
+    Form, HART_WORDS, Hart, KEYS, Map, Memory, Refusal, Step, read_record, replay, save,
     write_record,
 };
 
-fn reset_text() -> [u8; TEXT_LENGTH] {
+const TEXT_LENGTH: usize = 1027;
+
+fn form(words: &[u64; HART_WORDS]) -> Vec<u8> {
+    Form::First.text(words)
+}
+
+fn restore(text: &[u8]) -> Result<(Hart, Map), Refusal> {
+    reference::restore(Form::First, text)
+}
+
+fn reset_text() -> Vec<u8> {
     form(&Hart::reset().to_words())
 }
 
@@ -18,9 +28,8 @@ fn replayed(start: Option<&[u8]>, input: &[u8]) -> String {
 
 #[test]
 fn the_saved_form() {
-    let length: usize = KEYS.iter().map(|key| key.len() + 18).sum();
-    assert_eq!(length, TEXT_LENGTH);
-    let text = String::from_utf8(reset_text().to_vec()).unwrap();
+    let text = String::from_utf8(reset_text()).unwrap();
+    assert_eq!(text.len(), TEXT_LENGTH);
     let lines: Vec<&str> = text.lines().collect();
     assert_eq!(lines.len(), 41);
     for (key, line) in KEYS.iter().zip(lines) {
@@ -40,9 +49,9 @@ fn b29_saving() {
     let damaged = Hart { mode: 2, ..Hart::reset() };
     for length in [0, 1, 1026, 1027, 1028, 1100] {
         let mut buffer = vec![0xEE; length];
-        assert_eq!(save(&damaged, &mut buffer), Err(Refusal::State));
+        assert_eq!(save(Form::First, &damaged, &mut buffer), Err(Refusal::State));
         assert!(buffer.iter().all(|&byte| byte == 0xEE));
-        let saved = save(&Hart::reset(), &mut buffer);
+        let saved = save(Form::First, &Hart::reset(), &mut buffer);
         if length < TEXT_LENGTH {
             assert_eq!(saved, Err(Refusal::Buffer));
             assert!(buffer.iter().all(|&byte| byte == 0xEE));
@@ -63,7 +72,7 @@ fn b34_what_is_not_in_the_form() {
     refused(&[&text[..], b"\n"].concat());
     refused(&[&text[..], &text[..]].concat());
     let replaced = |from: &str, to: &str| {
-        let text = String::from_utf8(text.to_vec()).unwrap();
+        let text = String::from_utf8(text.clone()).unwrap();
         assert!(text.contains(from));
         text.replacen(from, to, 1).into_bytes()
     };
@@ -76,7 +85,7 @@ fn b34_what_is_not_in_the_form() {
     refused(&replaced("pmpaddr10", "pmpaddr11"));
     refused(&replaced("mode=0", "mode=+"));
     for place in 0..TEXT_LENGTH {
-        let mut damaged = text;
+        let mut damaged = text.clone();
         damaged[place] ^= 0x80;
         refused(&damaged);
     }
@@ -92,7 +101,7 @@ fn the_form_is_judged_before_the_state() {
 
 #[test]
 fn every_register_has_its_own_line() {
-    for word in 0..KEYS.len() {
+    for word in 0..41 {
         let mut words = Hart::reset().to_words();
         words[word] ^= match word {
             0 => 3,

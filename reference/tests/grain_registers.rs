@@ -6,10 +6,10 @@ mod common;
 use common::*;
 use reference::protection::{NAPOT, OFF, TOR};
 use reference::{
-    Access, Answer, Hart, Map, Mode, Refusal, TEXT_LENGTH, Verdict, form, make, query, restore,
-    save,
+    Access, Answer, Form, Hart, Map, Mode, Refusal, Verdict, make, query, restore, save,
 };
 
+const TEXT_LENGTH: usize = 1027;
 const PMPCFG0: u64 = 0x3A0;
 const PMPADDR0: u64 = 0x3B0;
 const ALL_ONES: u64 = (1 << 54) - 1;
@@ -257,20 +257,23 @@ fn saving_is_refusal_12_with_a_grain_after_3_and_6() {
         for length in [TEXT_LENGTH - 1, TEXT_LENGTH, TEXT_LENGTH + 1] {
             let mut buffer = vec![0xEE; length];
             let refusal = if length < TEXT_LENGTH { Refusal::Buffer } else { Refusal::NoText };
-            assert_eq!(save(&hart, &mut buffer), Err(refusal));
+            assert_eq!(save(Form::First, &hart, &mut buffer), Err(refusal));
             for damaged in [Hart { grain: 11, ..hart }, hart_with(grain, &[(0x10, 0)])] {
-                assert_eq!(save(&damaged, &mut buffer), Err(Refusal::State));
+                assert_eq!(save(Form::First, &damaged, &mut buffer), Err(Refusal::State));
             }
             assert!(buffer.iter().all(|&byte| byte == 0xEE));
         }
     }
-    assert_eq!(save(&make(11).0, &mut [0; TEXT_LENGTH]), Ok(()));
+    assert_eq!(save(Form::First, &make(11).0, &mut [0; TEXT_LENGTH]), Ok(()));
 }
 
-/// The text has no line for the grain.
+/// The first form has no line for the grain.
 #[test]
-fn a_text_is_read_with_a_grain_of_0() {
+fn a_text_of_the_first_form_is_read_with_a_grain_of_0() {
     let hart = hart_with(5, &[(0x1F, 0x5A5)]);
     let finest = Hart { grain: 0, ..hart };
-    assert_eq!(restore(&form(&hart.to_words())), Ok((finest, finest.compile())));
+    assert_eq!(
+        restore(Form::First, &Form::First.text(&hart.to_words())),
+        Ok((finest, finest.compile()))
+    );
 }

@@ -2,16 +2,13 @@
 
 use reference::{HART_WORDS, Hart, KEYS};
 
-/// The words that have no key in the saved text.
-const KEYLESS: [&str; 2] = ["satp", "grain"];
-
 fn can_hold(key: &str, value: u64) -> bool {
     can_hold_with(&Hart::reset(), key, value)
 }
 
 /// The same with another start than reset.
 fn can_hold_with(start: &Hart, key: &str, value: u64) -> bool {
-    let word = KEYS.iter().chain(&KEYLESS).position(|&name| name == key).unwrap();
+    let word = KEYS.iter().position(|&name| name == key).unwrap();
     let mut words = start.to_words();
     words[word] = value;
     Hart::from_words(&words).can_hold()

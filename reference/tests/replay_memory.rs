@@ -8,7 +8,7 @@ use std::path::{Path, PathBuf};
 use std::process::{Command, Output};
 
 use common::paging::{BASE, RWX, entry, one_page};
-use reference::{Hart, MOST_WORDS, Memory, form, read_memory, write_memory, write_record};
+use reference::{Form, Hart, MOST_WORDS, Memory, read_memory, write_memory, write_record};
 
 fn example(name: &str) -> PathBuf {
     Path::new(env!("CARGO_MANIFEST_DIR")).join("../examples/paging").join(name)
@@ -38,7 +38,8 @@ fn the_example_with_page_tables() {
     let arguments = ["start.txt", "memory.txt"].map(example);
     let found = written(&arguments, &example("trace.txt"));
     assert_eq!(found, fs::read_to_string(example("expected.txt")).unwrap());
-    assert!(found.contains("\nrefused 12\nrange "));
+    assert!(found.contains("\nform=0000000000000002\nmode="));
+    assert!(found.contains("\ngrain=0000000000000000\nrange "));
 }
 
 #[test]
@@ -54,7 +55,7 @@ fn a_dash_is_reset_and_no_words_at_0() {
     for arguments in [vec!["-"], vec!["-", "-"]] {
         assert_eq!(written(&arguments, &trace), found);
     }
-    let start = file("dash-start", &form(&Hart::reset().to_words()));
+    let start = file("dash-start", &Form::First.text(&Hart::reset().to_words()));
     assert_eq!(written(&[start.as_path()], &trace), found);
     assert_eq!(written(&[start.as_path(), Path::new("-")], &trace), found);
     assert!(!program(&["-", "-", "-"], &trace).status.success());
@@ -108,7 +109,7 @@ fn a_broken_memory_is_told_and_nothing_written() {
 fn the_start_is_judged_first() {
     let trace = file("judged-trace", b"");
     let broken = file("judged-broken", b"base=");
-    let short = file("judged-short", &form(&Hart::reset().to_words())[..1026]);
+    let short = file("judged-short", &Form::First.text(&Hart::reset().to_words())[..1026]);
     for memory in [broken.as_path(), Path::new("no such file"), Path::new("-")] {
         assert_eq!(written(&[short.as_path(), memory], &trace), "refused 4\n");
     }

@@ -1,15 +1,15 @@
-//! Request [8] of document 02: satp, the wider registers, and what the saved text has
-//! no room for.
+//! Request [8] of document 02: satp, the wider registers, and what the first form of
+//! a text has no room for.
 
 mod common;
 
 use common::*;
 use reference::status::{SUM, TVM};
 use reference::{
-    Answer, HART_WORDS, Hart, MACHINE, Mode, Refusal, SUPERVISOR, TEXT_LENGTH, USER, form, restore,
-    save,
+    Answer, Form, HART_WORDS, Hart, MACHINE, Mode, Refusal, SUPERVISOR, USER, restore, save,
 };
 
+const TEXT_LENGTH: usize = 1027;
 const SATP: u64 = 0x180;
 const SV39: u64 = 8 << 60;
 const PPN: u64 = (1 << 44) - 1;
@@ -112,7 +112,7 @@ fn raise_still_takes_causes_0_to_7() {
     }
 }
 
-/// States that a hart can hold and the saved text cannot.
+/// States that a hart can hold and the first form cannot.
 fn without_text() -> Vec<Hart> {
     let reset = Hart::reset();
     let sum = Hart { mstatus: reset.mstatus | SUM, ..reset };
@@ -125,26 +125,26 @@ fn without_text() -> Vec<Hart> {
 #[test]
 fn b29_saving_is_refusal_12_after_3_and_6() {
     for hart in without_text() {
-        assert!(hart.can_hold() && !hart.has_text());
+        assert!(hart.can_hold() && !hart.has_text(Form::First));
         for length in [0, TEXT_LENGTH - 1, TEXT_LENGTH, TEXT_LENGTH + 5] {
             let mut buffer = vec![0xEE; length];
             let refusal = if length < TEXT_LENGTH { Refusal::Buffer } else { Refusal::NoText };
-            assert_eq!(save(&hart, &mut buffer), Err(refusal));
+            assert_eq!(save(Form::First, &hart, &mut buffer), Err(refusal));
             let damaged = Hart { lines: 1, ..hart };
-            assert_eq!(save(&damaged, &mut buffer), Err(Refusal::State));
+            assert_eq!(save(Form::First, &damaged, &mut buffer), Err(Refusal::State));
             assert!(buffer.iter().all(|&byte| byte == 0xEE));
         }
     }
     assert_eq!(Refusal::NoText.number(), 12);
     let narrow = Hart { medeleg: 0x3FF, mstatus: 0xA_007A_19AA, ..Hart::reset() };
-    assert_eq!(save(&narrow, &mut [0; TEXT_LENGTH]), Ok(()));
+    assert_eq!(save(Form::First, &narrow, &mut [0; TEXT_LENGTH]), Ok(()));
 }
 
-/// B27: satp has no line, so a text is read with satp 0; the other two are refusal 5.
+/// B27: satp has no line there, so a text is read with satp 0; the other two are refusal 5.
 #[test]
 fn b27_reading_keeps_to_the_narrow_masks() {
     for hart in without_text() {
-        let read = restore(&form(&hart.to_words()));
+        let read = restore(Form::First, &Form::First.text(&hart.to_words()));
         if hart.satp == 0 {
             assert_eq!(read, Err(Refusal::TextState));
         } else {

@@ -1,6 +1,6 @@
 -- The calls of the C interface: what each gives back, and what it leaves in the slices that it is lent, from what was in them.
 use Prim.Native.Nat.{ℕ, _*_, _-_, _^_}
-use mathlib.Core.Bool.{Bool, cond, _&&_}
+use mathlib.Core.Bool.{Bool, cond, _&&_, _||_}
 use mathlib.Core.List.{List, [], _∷_}
 use lib.Dec.{eqb, leb}
 use lib.ListN.{length}
@@ -15,14 +15,16 @@ use Rattle.state.specs.Words.{wordsOf, stateOf}
 use Rattle.map.specs.declared.Map.{Map}
 use Rattle.map.specs.MapWords.{mapOfWords, mapWords}
 use Rattle.engine.specs.Runs.{Lent, lent}
+use Rattle.text.specs.declared.Form.{Form}
+use Rattle.text.specs.declared.Form.the-variants.{First, Second}
 use Rattle.hart.specs.declared.Hart.{Hart}
 use Rattle.hart.specs.declared.Stepped.{Stepped}
 use Rattle.hart.specs.Steps.{hartWith, resetMapped}
 use Rattle.hart.specs.Runs.{leftBy, answersBy}
 use Rattle.hart.specs.Queries.{queryAnswer}
-use Rattle.hart.specs.Saved.{savedAnswer, savedBuffer, restored}
+use Rattle.hart.specs.Saved.{savedAnswer, savedBuffer, restored, convertedAnswer, convertedBuffer}
 
--- the hart of 43 words: those of the saved text in its order, satp and the grain
+-- the hart of 43 words: those of the first form's lines in their order, satp and the grain
 abbrev pub hartOf : List ℕ → Hart
 hartOf words = hartWith (stateOf words)
 
@@ -101,27 +103,47 @@ queryAnswered hart map mode kind address size answer =
 
 -- ---- the saved text
 
--- what a call gives where the hart or the map has another length: no refusal has this number
+-- what a call gives where the hart or the map has another length, or the form is another: no refusal has this number
 abbrev pub misfit : ℕ
 misfit = 2 ^ 64 - 1
 
--- 0, or refusal 3, then 6, then 12
-unfoldable pub saveResult : List ℕ → List ℕ → ℕ
-saveResult hart text = cond (eqb (length hart) 43) (refusalOf (savedAnswer (hartOf hart) text)) misfit
+-- 02, [10]: form 1 is 01's, and 2 the other
+abbrev pub isForm : ℕ → Bool
+isForm form = eqb form 1 || eqb form 2
 
-unfoldable pub savedText : List ℕ → List ℕ → List ℕ
-savedText hart text = cond (eqb (length hart) 43) (savedBuffer (hartOf hart) text) text
+abbrev pub formOf : ℕ → Form
+formOf form = cond (eqb form 1) First Second
+
+-- 0, or refusal 3, then 6, then 12
+abbrev pub saveable : ℕ → List ℕ → Bool
+saveable form hart = isForm form && eqb (length hart) 43
+
+unfoldable pub saveResult : ℕ → List ℕ → List ℕ → ℕ
+saveResult form hart text = cond (saveable form hart) (refusalOf (savedAnswer (formOf form) (hartOf hart) text)) misfit
+
+unfoldable pub savedText : ℕ → List ℕ → List ℕ → List ℕ
+savedText form hart text = cond (saveable form hart) (savedBuffer (formOf form) (hartOf hart) text) text
 
 -- what reading a text back leaves
-abbrev pub readBack : List ℕ → List ℕ → List ℕ → Stepped
-readBack text hart map = restored (hartOf hart) (mapOfWords map) text
+abbrev pub readBack : ℕ → List ℕ → List ℕ → List ℕ → Stepped
+readBack form text hart map = restored (formOf form) (hartOf hart) (mapOfWords map) text
 
 -- 0, or refusal 4, then 5
-unfoldable pub restoreResult : List ℕ → List ℕ → List ℕ → ℕ
-restoreResult text hart map = cond (fits hart map) (refusalOf (readBack text hart map .answer)) misfit
+abbrev pub restorable : ℕ → List ℕ → List ℕ → Bool
+restorable form hart map = isForm form && fits hart map
 
-unfoldable pub restoredHart : List ℕ → List ℕ → List ℕ → List ℕ
-restoredHart text hart map = cond (fits hart map) (wordsOf (readBack text hart map .hart .state)) hart
+unfoldable pub restoreResult : ℕ → List ℕ → List ℕ → List ℕ → ℕ
+restoreResult form text hart map = cond (restorable form hart map) (refusalOf (readBack form text hart map .answer)) misfit
 
-unfoldable pub restoredMap : List ℕ → List ℕ → List ℕ → List ℕ
-restoredMap text hart map = cond (fits hart map) (mapWords (readBack text hart map .map)) map
+unfoldable pub restoredHart : ℕ → List ℕ → List ℕ → List ℕ → List ℕ
+restoredHart form text hart map = cond (restorable form hart map) (wordsOf (readBack form text hart map .hart .state)) hart
+
+unfoldable pub restoredMap : ℕ → List ℕ → List ℕ → List ℕ → List ℕ
+restoredMap form text hart map = cond (restorable form hart map) (mapWords (readBack form text hart map .map)) map
+
+-- 0, or refusal 4, then 5, 6 and 12
+unfoldable pub convertResult : ℕ → List ℕ → List ℕ → ℕ
+convertResult to text buffer = cond (isForm to) (refusalOf (convertedAnswer (formOf to) text buffer)) misfit
+
+unfoldable pub convertedText : ℕ → List ℕ → List ℕ → List ℕ
+convertedText to text buffer = cond (isForm to) (convertedBuffer (formOf to) text buffer) buffer

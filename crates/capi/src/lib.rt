@@ -6,6 +6,7 @@ mod query;
 use hart::Hart;
 use map::Map;
 use map::Range;
+use text::Form;
 ghost use mathlib.Core.Path.{_≡_};
 ghost use mathlib.Core.Bool.{_&&_};
 ghost use lib.Dec.{eqb, leb};
@@ -14,7 +15,8 @@ ghost use Rattle.pmp.specs.Number.{isMode};
 ghost use Rattle.paging.specs.Memory.{memoryAt};
 ghost use Rattle.state.specs.Words.{wordsOf};
 ghost use Rattle.map.specs.MapWords.{mapWords};
-ghost use Rattle.capi.specs.Calls.{makeResult, madeHart, madeMap, stepCall, runCall, queryResult, queryAnswered, saveResult, savedText, restoreResult, restoredHart, restoredMap};
+ghost use Rattle.capi.specs.Calls.{makeResult, madeHart, madeMap, stepCall, runCall, queryResult, queryAnswered, isForm, formOf, saveResult, savedText};
+ghost use Rattle.capi.specs.Calls.{restoreResult, restoredHart, restoredMap, convertResult, convertedText};
 
 fn fit(hart: usize, map: usize) -> bool
     ensures { λ r. ⌜ r ≡ (eqb hart 43 && eqb map 100) ⌝ }
@@ -129,33 +131,50 @@ pub extern "C" fn tegrwyllt_query(
     1
 }
 
-// What a call gives where the hart or the map has another length: no refusal has this number.
+// What a call gives where the hart or the map has another length, or the form is another: no refusal has this number.
 const MISFIT: u64 = 0xFFFFFFFFFFFFFFFF;
 
-// Saves a hart to the front of a buffer. 0, or the number of the refusal, 3 before 6 before 12.
-#[no_mangle]
-pub extern "C" fn tegrwyllt_save(hart: &[u64], text: &mut [u8]) -> u64
-    ensures { λ r. ⌜ r ≡ saveResult (now (hart .entry)) (now (text .entry)) ⌝ }
-    ensures { λ _. ⌜ now (text .exit) ≡ savedText (now (hart .entry)) (now (text .entry)) ⌝ }
+fn is_form(form: u64) -> bool
+    ensures { λ r. ⌜ r ≡ isForm form ⌝ }
 {
-    if hart.len() != 43 {
+    (form == 1) | (form == 2)
+}
+
+fn form_of(form: u64) -> Form
+    ensures { λ r. ⌜ r ≡ formOf form ⌝ }
+{
+    if form == 1 { Form::First } else { Form::Second }
+}
+
+// Saves a hart in a form, 1 or 2, to the front of a buffer. 0, or the number of the refusal, 3 before 6 before 12.
+#[no_mangle]
+pub extern "C" fn tegrwyllt_save(form: u64, hart: &[u64], text: &mut [u8]) -> u64
+    ensures { λ r. ⌜ r ≡ saveResult form (now (hart .entry)) (now (text .entry)) ⌝ }
+    ensures { λ _. ⌜ now (text .exit) ≡ savedText form (now (hart .entry)) (now (text .entry)) ⌝ }
+{
+    if !(is_form(form) & (hart.len() == 43)) {
         return MISFIT;
     }
     let given = Hart {
         state: state::load(hart),
     };
-    steps::refusal_of(given.save(text))
+    steps::refusal_of(given.save(form_of(form), text))
 }
 
-// Reads a text back as a hart and its map. 0, or the number of the refusal, 4 before 5; then hart and map are left as they were. What a hart and a map
-// that go in are does not matter to the reading, so any stand for them.
+// Reads a text of a form back as a hart and its map. 0, or the number of the refusal, 4 before 5; then hart and map are left as they were. What a hart and
+// a map that go in are does not matter to the reading, so any stand for them.
 #[no_mangle]
-pub extern "C" fn tegrwyllt_restore(text: &[u8], hart: &mut [u64], map: &mut [u64]) -> u64
-    ensures { λ r. ⌜ r ≡ restoreResult (now (text .entry)) (now (hart .entry)) (now (map .entry)) ⌝ }
-    ensures { λ _. ⌜ now (hart .exit) ≡ restoredHart (now (text .entry)) (now (hart .entry)) (now (map .entry)) ⌝ }
-    ensures { λ _. ⌜ now (map .exit) ≡ restoredMap (now (text .entry)) (now (hart .entry)) (now (map .entry)) ⌝ }
+pub extern "C" fn tegrwyllt_restore(
+    form: u64,
+    text: &[u8],
+    hart: &mut [u64],
+    map: &mut [u64],
+) -> u64
+    ensures { λ r. ⌜ r ≡ restoreResult form (now (text .entry)) (now (hart .entry)) (now (map .entry)) ⌝ }
+    ensures { λ _. ⌜ now (hart .exit) ≡ restoredHart form (now (text .entry)) (now (hart .entry)) (now (map .entry)) ⌝ }
+    ensures { λ _. ⌜ now (map .exit) ≡ restoredMap form (now (text .entry)) (now (hart .entry)) (now (map .entry)) ⌝ }
 {
-    if !fit(hart.len(), map.len()) {
+    if !(is_form(form) & fit(hart.len(), map.len())) {
         return MISFIT;
     }
     let given = Hart {
@@ -169,7 +188,7 @@ pub extern "C" fn tegrwyllt_restore(text: &[u8], hart: &mut [u64], map: &mut [u6
             owner: 0,
         }; 33],
     };
-    let read = given.restore(empty, text);
+    let read = given.restore(empty, form_of(form), text);
     let answer = read.answer;
     let refusal = steps::refusal_of(answer);
     if refusal != 0 {
@@ -179,4 +198,17 @@ pub extern "C" fn tegrwyllt_restore(text: &[u8], hart: &mut [u64], map: &mut [u6
     let fresh_map = read.map;
     put(after, fresh_map, hart, map);
     0
+}
+
+// Reads a text of the other form, and writes it in the form asked for, 1 or 2, to the front of a buffer. 0, or the number of the refusal, 4 before 5 before 6
+// before 12.
+#[no_mangle]
+pub extern "C" fn tegrwyllt_convert(to: u64, text: &[u8], buffer: &mut [u8]) -> u64
+    ensures { λ r. ⌜ r ≡ convertResult to (now (text .entry)) (now (buffer .entry)) ⌝ }
+    ensures { λ _. ⌜ now (buffer .exit) ≡ convertedText to (now (text .entry)) (now (buffer .entry)) ⌝ }
+{
+    if !is_form(to) {
+        return MISFIT;
+    }
+    steps::refusal_of(hart::convert(form_of(to), text, buffer))
 }

@@ -18,13 +18,15 @@ use Rattle.paging.specs.Memory.{Memory}
 use Rattle.state.specs.declared.State.{State}
 use Rattle.state.specs.Words.{wordsOf, stateOf}
 use Rattle.map.specs.declared.Map.{Map}
+use Rattle.text.specs.declared.Form.{Form}
 use Rattle.engine.specs.Runs.{Lent, lent, afterAll, answersOf, anyRemaps, Ran, ran}
 use Rattle.hart.specs.declared.Hart.{Hart}
 use Rattle.hart.specs.declared.Stepped.{Stepped}
 use Rattle.hart.specs.Steps.{mapFor, hartWith, resetMapped}
 use Rattle.hart.specs.Runs.{with, leftBy}
+use Rattle.hart.specs.Saved.{readAnew}
 use Rattle.hart.proofs.LeftLaws.{left-is}
-use Rattle.claims.specs.AfterRun.{stepsIn, readBack, ruleFromText}
+use Rattle.claims.specs.AfterRun.{stepsIn, ruleFromText}
 use Rattle.claims.specs.Faithful.{queryAfter}
 use Rattle.claims.proofs.Faithfulness.{back, text-sound, query-after}
 
@@ -76,18 +78,18 @@ module _ (h : Hart) (map : Map) (m : Memory) (numbers : List ℕ) {w : List ℕ}
 
 -- ---- from what reading a text back gave
 
-module _ (text : List ℕ) (steps : List Lent) (mode : Mode) (access : Access) (address size : ℕ) {read : Stepped} (known : read ≡ readBack text)
+module _ (form : Form) (text : List ℕ) (steps : List Lent) (mode : Mode) (access : Access) (address size : ℕ) {read : Stepped} (known : read ≡ readAnew form text)
     {refusal : ℕ} (told : refusal ≡ refusalOf (read .answer)) where
-  refusal-is : refusal ≡ refusalOf (readBack text .answer)
+  refusal-is : refusal ≡ refusalOf (readAnew form text .answer)
   refusal-is = told ∙ ap (λ (s : Stepped). refusalOf (s .answer)) known
 
-  pub text-asked : refusal ≡ 0 → queryAfter (back read) steps mode access address size ≡ ruleFromText text steps mode access address size
+  pub text-asked : refusal ≡ 0 → queryAfter (back read) steps mode access address size ≡ ruleFromText form text steps mode access address size
   unfolding ruleFromText
   text-asked z =
-      let e : refusalOf (readBack text .answer) ≡ 0 = sym refusal-is ∙ z in
-      rw (known, eq-eqb (refusalOf (readBack text .answer)) 0 e)
-      (query-after (back (readBack text)) (text-sound (resetMapped 0 .hart) (resetMapped 0 .map) text e) steps mode access address size)
+      let e : refusalOf (readAnew form text .answer) ≡ 0 = sym refusal-is ∙ z in
+      rw (known, eq-eqb (refusalOf (readAnew form text .answer)) 0 e)
+      (query-after (back (readAnew form text)) (text-sound (resetMapped 0 .hart) (resetMapped 0 .map) form text e) steps mode access address size)
 
-  pub text-refused : (refusal ≡ 0 → ⊥) → Refused refusal ≡ ruleFromText text steps mode access address size
+  pub text-refused : (refusal ≡ 0 → ⊥) → Refused refusal ≡ ruleFromText form text steps mode access address size
   unfolding ruleFromText
-  text-refused z = ap Refused refusal-is ∙ rw (ne-eqb (refusalOf (readBack text .answer)) 0 (λ p. z (refusal-is ∙ p)))
+  text-refused z = ap Refused refusal-is ∙ rw (ne-eqb (refusalOf (readAnew form text .answer)) 0 (λ p. z (refusal-is ∙ p)))

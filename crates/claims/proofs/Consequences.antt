@@ -1,9 +1,11 @@
 -- Sentences of 01 and 02 that rest on more than one definition hold. Assumes nothing.
 use Prim.Native.Nat.{ℕ}
-use mathlib.Core.Path.{_≡_, refl, _∙_}
-use mathlib.Core.List.{[], _∷_}
+use mathlib.Core.Path.{_≡_, refl, ap, _∙_}
+use mathlib.Core.List.{List, [], _∷_}
 use native.Mathlib.Omega.{arith}
-use Rattle.bits.specs.Lists.{elements}
+use lib.ListN.{length, take}
+use Rattle.bits.specs.Lists.{elements, Words}
+use Rattle.bits.proofs.ListLaws.{elements-take}
 use Rattle.lines.specs.Lines.{bytesOf, hexDigits, lineOf, linesOf}
 use Rattle.pmp.specs.declared.Span.{Span}
 use Rattle.pmp.specs.Rule.{ownerOf}
@@ -12,14 +14,16 @@ use Rattle.pmp.proofs.RuleLaws.{beyond-faults}
 use Rattle.protection.specs.Configs.{packed}
 use Rattle.state.specs.declared.State.{State}
 use Rattle.state.specs.Hold.{resetState}
-use Rattle.state.specs.Words.{textWords}
+use Rattle.state.specs.Words.{wordsOf}
 use Rattle.map.proofs.Boundaries.{boundaries}
-use Rattle.text.specs.Text.{keys, textOf}
-use Rattle.text.proofs.Form.{text-length}
+use Rattle.text.specs.declared.Form.{Form}
+use Rattle.text.specs.declared.Form.the-variants.{First, Second}
+use Rattle.text.specs.Text.{firstKeys, keysOf, headOf, textOf, lineCount, completed, readAs, readText}
+use Rattle.text.proofs.Template.{text-length}
 use Rattle.text.proofs.Laws.{read-text, text-read, read-words, refused-none}
 use Rattle.hart.specs.Steps.{hartWith}
 use Rattle.hart.specs.Saved.{textFor}
-use Rattle.claims.specs.SavedLines.{keyed, keyedText, resetLines, joined}
+use Rattle.claims.specs.SavedLines.{keyed, keyedSecond, keyedText, resetLines, resetSecond, joined}
 use Rattle.claims.specs.Consequences.{LowestOwner, Consequences}
 use Rattle.claims.proofs.OneValue.{zero-step, zero-readable, misa-step, fixed-step, fixed-writable, satp-illegal, satp-step, lowest-first, config-steps}
 use Rattle.claims.proofs.Counting.{mcycle-left, minstret-left, elapsed-counts}
@@ -31,9 +35,13 @@ use Rattle.claims.proofs.Querying.{count-read, range-found, range-missi
 
 -- ---- the saved text
 
-saved-lines : (s : State) → textFor (hartWith s) ≡ keyedText (keyed s)
-unfolding keys linesOf textOf elements
+saved-lines : (s : State) → textFor First (hartWith s) ≡ keyedText (keyed s)
+unfolding firstKeys keysOf headOf linesOf textOf wordsOf elements
 saved-lines s = refl
+
+second-lines : (s : State) → textFor Second (hartWith s) ≡ keyedText (keyedSecond s)
+unfolding firstKeys keysOf headOf linesOf textOf wordsOf elements
+second-lines s = refl
 
 word-digits : hexDigits 16 0x0123456789ABCDEF ≡ bytesOf "0123456789abcdef"
 unfolding bytesOf hexDigits
@@ -43,9 +51,20 @@ packed-bytes : packed (1 ∷ 2 ∷ 3 ∷ 4 ∷ 5 ∷ 6 ∷ 7 ∷ 8 ∷ []) ≡ 0
 unfolding packed
 packed-bytes = refl
 
-reset-text : textFor (hartWith (resetState 0)) ≡ joined resetLines
-unfolding bytesOf hexDigits lineOf linesOf keys textOf packed elements
+reset-text : textFor First (hartWith (resetState 0)) ≡ joined resetLines
+unfolding bytesOf hexDigits lineOf linesOf firstKeys keysOf headOf textOf packed wordsOf elements
 reset-text = refl
+
+reset-second : textFor Second (hartWith (resetState 0)) ≡ joined resetSecond
+unfolding bytesOf hexDigits lineOf linesOf firstKeys keysOf headOf textOf packed wordsOf elements
+reset-second = refl
+
+words-taken : (form : Form) (ws : List ℕ) → length ws ≡ 43 → elements (lineCount form) 0 ws ≡ take (lineCount form) ws
+words-taken First ws n = elements-take ws 41 0 (omega arith)
+words-taken Second ws n = elements-take ws 43 0 (omega arith)
+
+text-words : (form : Form) (ws : List ℕ) → Words 43 ws → readText form (textOf form ws) ≡ readAs (completed form (take (lineCount form) ws))
+text-words form ws w = read-text form ws w ∙ ap (λ (l : List ℕ). readAs (completed form l)) (words-taken form ws (w .count))
 
 -- ---- owners
 
@@ -93,11 +112,13 @@ consequences =
       effective-mode = effective-mode;
       mode-numbers = (refl, refl, refl);
       owner = owner;
-      lines = λ s. (saved-lines s, refl, text-length (textWords s));
+      lines = λ s. (saved-lines s, refl, text-length First (wordsOf s));
+      second-lines = λ s. (second-lines s, refl, text-length Second (wordsOf s));
       digits = word-digits;
       reset-text = reset-text;
-      text-read = read-text;
-      read-text = λ text words e. (text-read text words e, read-words text words e);
+      reset-second = reset-second;
+      text-read = text-words;
+      read-text = λ form text words e. (text-read form text words e, read-words form text words e);
       unread = refused-none;
       compiled-map = λ p. boundaries (p .grain) (p .cfgs) (p .addrs);
       range-found = range-found;

@@ -2,7 +2,7 @@
 -- Assumes nothing.
 use Prim.Native.Nat.{ℕ, _≤_}
 use mathlib.Core.Path.{_≡_, refl, sym, ap, subst, _∙_}
-use mathlib.Core.Bool.{true}
+use mathlib.Core.Bool.{true, cond}
 use mathlib.Core.List.{List}
 use mathlib.Core.Logic.{⊎-elim}
 use native.Mathlib.Omega.{arith}
@@ -18,7 +18,6 @@ use Rattle.steps.specs.declared.Answer.the-variants.{Refused as RefusedAnswer}
 use Rattle.steps.specs.Number.{refusalOf}
 use Rattle.state.specs.Hold.{canHold}
 use Rattle.protection.specs.Spans.{spansOf}
-use Rattle.state.specs.Texts.{hasText, textState}
 use Rattle.state.proofs.Held.{reset-holds}
 use Rattle.map.specs.declared.Map.{Map}
 use Rattle.map.specs.Ranges.{IsMap}
@@ -28,6 +27,7 @@ use Rattle.map.proofs.Lawful.{unique}
 use Rattle.map.proofs.MapLaws.{is-map, entry-below, compiled-ranges}
 use Rattle.map.proofs.Boundaries.{boundaries}
 use Rattle.map.proofs.QueryLaws.{query-rule, query-refused, same-ranges}
+use Rattle.text.specs.declared.Form.{Form}
 use Rattle.text.specs.Text.{readText}
 use Rattle.engine.specs.Runs.{Lent, afterAll}
 use Rattle.engine.proofs.Holds.{after-holds}
@@ -37,7 +37,7 @@ use Rattle.hart.specs.declared.Stepped.{Stepped}
 use Rattle.hart.specs.Steps.{mapFor, hartWith, handedBack, resetMapped}
 use Rattle.hart.specs.Queries.{queryAnswer}
 use Rattle.hart.specs.Runs.{with}
-use Rattle.hart.specs.Saved.{textHolds, restoredDone, restoredWords, restored}
+use Rattle.hart.specs.Saved.{formHolds, textHolds, stateIn, restoredDone, restored}
 use Rattle.hart.proofs.LeftLaws.{own-map}
 use Rattle.claims.specs.Faithful.{FromText, Start, left, pmpAfter, spansAfter, queryAfter, FaithfulAfter, SameRanges, Faithful}
 use Rattle.claims.specs.AfterRun.{ruleAfter}
@@ -56,23 +56,19 @@ module _ (h : Hart) (map : Map) where
   abbrev Back : Stepped → Type 0
   Back s = refusalOf (s .answer) ≡ 0 → Sound (back s)
 
-  words-sound : (words : List ℕ) → Back (restoredWords h map words)
-  unfolding restoredWords
-  words-sound words =
-      by-test Back (textHolds (textState words)) (restoredDone (textState words)) (handedBack h map (RefusedAnswer 5))
-      (λ q e. record { held = both (canHold (textState words)) (hasText (textState words)) q .0; own = refl })
-      (λ q e. absurd (omega (arith, e)))
-
-  pub text-sound : (text : List ℕ) → Back (restored h map text)
+  pub text-sound : (form : Form) (text : List ℕ) → Back (restored form h map text)
   unfolding restored
-  text-sound text =
-      by-test Back (readText text .ok) (restoredWords h map (readText text .words)) (handedBack h map (RefusedAnswer 4))
-      (λ q. words-sound (readText text .words))
+  text-sound form text =
+      let s = stateIn form text in
+      by-test Back (readText form text .ok) (cond (textHolds form s) (restoredDone s) (handedBack h map (RefusedAnswer 5))) (handedBack h map (RefusedAnswer 4))
+      (λ o. by-test Back (textHolds form s) (restoredDone s) (handedBack h map (RefusedAnswer 5))
+      (λ q e. record { held = both (canHold s) (formHolds form s) q .0; own = refl })
+      (λ q e. absurd (omega (arith, e))))
       (λ q e. absurd (omega (arith, e)))
 
 from-text : (start : Mapped) → FromText start → Sound start
 from-text start t =
-    subst Sound (ap back (t .read)) (text-sound (t .hart) (t .map) (t .text) (ap (λ (s : Stepped). refusalOf (s .answer)) (t .read)))
+    subst Sound (ap back (t .read)) (text-sound (t .hart) (t .map) (t .form) (t .text) (ap (λ (s : Stepped). refusalOf (s .answer)) (t .read)))
 
 pub reset-sound : (g : ℕ) → Sound (resetMapped g)
 reset-sound g = record { held = reset-holds g; own = refl }

@@ -1,4 +1,4 @@
--- Steps, queries, saves and readings of a text are refused exactly when the table says, and a refusal changes nothing. Assumes nothing.
+-- Steps, queries, saves, readings of a text and conversions are refused exactly when the table says, and a refusal changes nothing. Assumes nothing.
 use Prim.Native.Nat.{ℕ}
 use mathlib.Core.Path.{_≡_, refl, sym, ap, _∙_}
 use mathlib.Core.Bool.{Bool, true, false, cond, not, _&&_, _||_}
@@ -6,8 +6,9 @@ use mathlib.Core.List.{List, _++_}
 use mathlib.Core.Option.{Option, none, some, Option·some-injective, Option·none-ne-some}
 use lib.Bits.{bitAnd}
 use lib.Dec.{eqb, leb, ltb}
-use lib.ListN.{length, drop}
+use lib.ListN.{length, take, drop}
 use Rattle.bits.proofs.Conjunction.{contradiction}
+use Rattle.lines.specs.Lines.{bytesOf, hexDigits, lineOf}
 use Rattle.pmp.specs.declared.Mode.{Mode}
 use Rattle.pmp.specs.declared.Access.{Access}
 use Rattle.pmp.specs.declared.Access.the-variants.{Fetch, Load, Store}
@@ -34,8 +35,8 @@ use Rattle.paging.specs.Access.{pageFaultCause, reached}
 use Rattle.paging.proofs.Answered.{Answered, grants as reach-grants, faults as reach-faults, page-faults, reached-unlawful, reached-missized, reached-answered}
 use Rattle.state.specs.declared.State.{State}
 use Rattle.state.specs.Hold.{canHold}
-use Rattle.state.specs.Words.{textWords}
-use Rattle.state.specs.Texts.{hasText, textState}
+use Rattle.state.specs.Words.{wordsOf}
+use Rattle.state.specs.Texts.{firstFormHolds}
 use Rattle.csr.specs.Permit.{illegal}
 use Rattle.trap.specs.declared.Outcome.{Outcome}
 use Rattle.trap.specs.Enter.{raised, illegalInstruction}
@@ -45,7 +46,10 @@ use Rattle.map.specs.declared.Map.{Map}
 use Rattle.map.specs.declared.Range.{Range}
 use Rattle.map.specs.Lookup.{findRange, rangesIn, ownerFound, ownerIn}
 use Rattle.map.specs.Query.{rangesDecide, queried}
-use Rattle.text.specs.Text.{textOf, writtenTo, readText}
+use Rattle.text.specs.declared.Form.{Form}
+use Rattle.text.specs.declared.Form.the-variants.{First, Second}
+use Rattle.text.specs.Text.{Reading, other, headOf, textOf, lengthOf, writtenTo, readText}
+use Rattle.text.proofs.Laws.{text-read, read-as, other-unread}
 use Rattle.engine.specs.Effects.{
   Effect,
   refused,
@@ -66,7 +70,7 @@ use Rattle.hart.specs.declared.Hart.{Hart}
 use Rattle.hart.specs.declared.Stepped.{Stepped}
 use Rattle.hart.specs.Steps.{hartWith, handedBack, withMap, resetDone, stepped}
 use Rattle.hart.specs.Queries.{queryAnswer}
-use Rattle.hart.specs.Saved.{savedAnswer, savedBuffer, restoredDone, restoredWords, restored}
+use Rattle.hart.specs.Saved.{formHolds, textHolds, savedAnswer, savedBuffer, stateIn, restoredDone, restored, convertedAnswer, convertedBuffer}
 use Rattle.claims.specs.Refusals.{
   memoryRefusal,
   eventRefusal,
@@ -77,6 +81,9 @@ use Rattle.claims.specs.Refusals.{
   queryRefusal,
   saveRefusal,
   restoreRefusal,
+  bytesOfForm,
+  unheldBy,
+  convertRefusal,
   Exactly,
   RefusalTable,
 }
@@ -270,12 +277,22 @@ query-decided h map mode access address size = go (canHold (h .state)) (isSize s
     go true false c = refl
     go false b c = refl
 
--- ---- saving
+-- ---- texts
 
-module _ (h : Hart) (buffer : List ℕ) where
-  save-told : Told (saveRefusal (h .state) buffer) (savedAnswer h buffer)
-  unfolding savedAnswer hasText
-  save-told = go (canHold (h .state)) (leb 1027 (length buffer)) (hasText (h .state))
+bytes-are : (form : Form) → bytesOfForm form ≡ lengthOf form
+bytes-are First = refl
+bytes-are Second = refl
+
+pub unheld : (form : Form) (s : State) → unheldBy form s ≡ not (formHolds form s)
+unfolding firstFormHolds
+unheld First s = refl
+unheld Second s = refl
+
+module _ (form : Form) (h : Hart) (buffer : List ℕ) where
+  save-told : Told (saveRefusal form (h .state) buffer) (savedAnswer form h buffer)
+  unfolding savedAnswer
+  save-told =
+      rw (bytes-are form, unheld form (h .state)) (go (canHold (h .state)) (leb (lengthOf form) (length buffer)) (formHolds form (h .state)))
     where
       go : (a b c : Bool)
           → Told (cond a (cond b (cond (not c) (some 12) none) (some 6)) (some 3)) (cond a (cond b (cond c Done (Refused 12)) (Refused 6)) (Refused 3))
@@ -284,12 +301,12 @@ module _ (h : Hart) (buffer : List ℕ) where
       go true false c = refl
       go false b c = refl
 
-  save-unchanged : (n : ℕ) → savedAnswer h buffer ≡ Refused n → savedBuffer h buffer ≡ buffer
+  save-unchanged : (n : ℕ) → savedAnswer form h buffer ≡ Refused n → savedBuffer form h buffer ≡ buffer
   unfolding savedAnswer savedBuffer writtenTo
-  save-unchanged n = go (canHold (h .state)) (leb 1027 (length buffer)) (hasText (h .state))
+  save-unchanged n = go (canHold (h .state)) (leb (lengthOf form) (length buffer)) (formHolds form (h .state))
     where
       text : List ℕ
-      text = textOf (textWords (h .state)) ++ drop 1027 buffer
+      text = textOf form (wordsOf (h .state)) ++ drop (lengthOf form) buffer
 
       go : (a b c : Bool) → cond a (cond b (cond c Done (Refused 12)) (Refused 6)) (Refused 3) ≡ Refused n
           → cond (a && c) (cond b text buffer) buffer ≡ buffer
@@ -299,14 +316,12 @@ module _ (h : Hart) (buffer : List ℕ) where
       go true false false e = refl
       go false b c e = refl
 
--- ---- reading a text back
-
-read-handed : (h : Hart) (map : Map) (text : List ℕ) → Handed h map (restoreRefusal text) (restored h map text)
-unfolding restored restoredWords hasText
-read-handed h map text = go (readText text .ok) (canHold s) (hasText s)
+read-handed : (form : Form) (h : Hart) (map : Map) (text : List ℕ) → Handed h map (restoreRefusal form text) (restored form h map text)
+unfolding restored
+read-handed form h map text = rw (unheld form s) (go (readText form text .ok) (canHold s) (formHolds form s))
   where
     s : State
-    s = textState (readText text .words)
+    s = stateIn form text
 
     go : (a b c : Bool)
         → Handed h map (cond a (cond (b && not (not c)) none (some 5)) (some 4))
@@ -315,6 +330,63 @@ read-handed h map text = go (readText text .ok) (canHold s) (hasText s)
     go true true false = refl
     go true false c = refl
     go false b c = refl
+
+module _ (to : Form) (text buffer : List ℕ) where
+  abbrev inText : State
+  inText = stateIn (other to) text
+
+  convert-told : Told (convertRefusal to text buffer) (convertedAnswer to text buffer)
+  unfolding convertedAnswer savedAnswer
+  convert-told =
+      rw (bytes-are to, unheld (other to) inText, unheld to inText)
+      (go (readText (other to) text .ok) (canHold inText) (formHolds (other to) inText) (leb (lengthOf to) (length buffer)) (formHolds to inText))
+    where
+      go : (a b c d e : Bool)
+          → Told (cond a (cond (b && not (not c)) (cond d (cond (not e) (some 12) none) (some 6)) (some 5)) (some 4))
+          (cond a (cond (b && c) (cond b (cond d (cond e Done (Refused 12)) (Refused 6)) (Refused 3)) (Refused 5)) (Refused 4))
+      go true true true true true = refl
+      go true true true true false = refl
+      go true true true false e = refl
+      go true true false d e = refl
+      go true false c d e = refl
+      go false b c d e = refl
+
+  convert-unchanged : (n : ℕ) → convertedAnswer to text buffer ≡ Refused n → convertedBuffer to text buffer ≡ buffer
+  unfolding convertedAnswer convertedBuffer
+  convert-unchanged n = go (readText (other to) text .ok) (textHolds (other to) inText)
+    where
+      go : (a b : Bool) → cond a (cond b (savedAnswer to (hartWith inText) buffer) (Refused 5)) (Refused 4) ≡ Refused n
+          → cond a (cond b (savedBuffer to (hartWith inText) buffer) buffer) buffer ≡ buffer
+      go true true e = save-unchanged to (hartWith inText) buffer n e
+      go true false e = refl
+      go false b e = refl
+
+-- ---- texts of the other form, and of none
+
+module _ (form : Form) (text : List ℕ) (e : readText form text .ok ≡ false) where
+  unformed : (h : Hart) (map : Map) → restored form h map text .answer ≡ Refused 4
+  unfolding restored
+  unformed h map = rw e
+
+other-form : (form : Form) (text : List ℕ) → readText form text .ok ≡ true → readText (other form) text .ok ≡ false
+other-form form text e = ap (λ (r : Reading). r .ok) (other-unread form text e)
+
+same-form : (to : Form) (text buffer : List ℕ) → readText to text .ok ≡ true → convertedAnswer to text buffer ≡ Refused 4
+unfolding convertedAnswer
+same-form to text buffer e = rw (other-form to text e)
+
+second-begins : (ws : List ℕ) → take 22 (textOf Second ws) ≡ bytesOf "form=0000000000000002\n"
+unfolding textOf headOf lineOf bytesOf hexDigits
+second-begins ws = refl
+
+form-line : (h : Hart) (map : Map) (text : List ℕ) → (take 22 text ≡ bytesOf "form=0000000000000002\n" → ⊥) → restored Second h map text .answer ≡ Refused 4
+form-line h map text line = go (readText Second text .ok) refl
+  where
+    go : (b : Bool) → readText Second text .ok ≡ b → restored Second h map text .answer ≡ Refused 4
+    go true e =
+        let ws = readText Second text .words in
+        absurd (line (ap (take 22) (text-read Second text ws (read-as Second text e)) ∙ second-begins ws))
+    go false e = unformed Second text e h map
 
 -- ---- the whole table
 
@@ -327,8 +399,13 @@ refusal-table =
       query = λ h map mode access address size.
           exactly Decision.Refused refusesAccess accessRefusal (λ n. refl) (λ n. refl) (queryRefusal (h .state) map address size)
           (queryAnswer h map mode access address size) (query-decided h map mode access address size);
-      save = λ h buffer. told-exactly (saveRefusal (h .state) buffer) (savedAnswer h buffer) (save-told h buffer);
+      save = λ form h buffer. told-exactly (saveRefusal form (h .state) buffer) (savedAnswer form h buffer) (save-told form h buffer);
       save-unchanged = save-unchanged;
-      restore = λ h map text. handed-exactly h map (restoreRefusal text) (restored h map text) (read-handed h map text);
-      restore-unchanged = λ h map text. handed-unchanged h map (restoreRefusal text) (restored h map text) (read-handed h map text);
+      restore = λ form h map text. handed-exactly h map (restoreRefusal form text) (restored form h map text) (read-handed form h map text);
+      restore-unchanged = λ form h map text. handed-unchanged h map (restoreRefusal form text) (restored form h map text) (read-handed form h map text);
+      convert = λ to text buffer. told-exactly (convertRefusal to text buffer) (convertedAnswer to text buffer) (convert-told to text buffer);
+      convert-unchanged = convert-unchanged;
+      other-form = λ form h map text e. unformed (other form) text (other-form form text e) h map;
+      same-form = same-form;
+      form-line = form-line;
     }

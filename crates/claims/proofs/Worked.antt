@@ -19,6 +19,7 @@ use Rattle.protection.specs.Hold.{pmpHoldable}
 use Rattle.protection.specs.Configs.{packed, unpacked, configsOf}
 use Rattle.protection.specs.Write.{configsWritten, pmpWritten}
 use Rattle.state.specs.Hold.{canHold}
+use Rattle.state.specs.Texts.{firstFormHolds}
 use Rattle.trap.specs.Enter.{enteredStatus, entered}
 use Rattle.trap.specs.Interrupt.{takeable, interruptTaken}
 use Rattle.trap.specs.Return.{returnedStatus, returned, returnStep}
@@ -45,6 +46,6 @@ none-tells Machine access = refl
 
 pub worked : AllRight settings
 unfolding lowest anyByte everyByte trailingOnes spanOf addressRead lowestMatch byteRule checked painted rangesOf
-    registersHoldable pmpHoldable all enteredStatus entered takeable interruptTaken returnedStatus returned returnStep elapsed canHold stepRule packed unpacked configsOf configsWritten pmpWritten
+    registersHoldable pmpHoldable firstFormHolds all enteredStatus entered takeable interruptTaken returnedStatus returned returnStep elapsed canHold stepRule packed unpacked configsOf configsWritten pmpWritten
 worked =
-    (λ mode access. refl, (refl, (refl, (refl, (refl, (refl, (refl, (refl, (refl, (refl, (refl, (λ mode access. entry-tells mode access na4 0, (none-tells, (λ mode access. entry-tells mode access napot 0, (λ mode access. refl, (none-tells, (λ mode access. refl, (λ mode access. entry-tells mode access napot 0, (none-tells, (λ mode access. refl, (none-tells, (λ mode access. entry-tells mode access napot 0, (λ mode access. refl, (λ mode access. refl, (none-tells, (none-tells, (λ mode access. entry-tells mode access napot 1, (λ mode access. refl, (λ mode access. refl, (none-tells, (λ mode access. entry-tells mode access na4 15, (λ mode access. refl, (none-tells, (refl, (refl, (refl, (refl, (refl, (refl, (refl, (refl, (refl, (refl, (refl, (refl, (refl, (refl, (refl, (refl, (refl, (refl, (refl, (refl, ((refl, refl), ((refl, refl), ((refl, refl), (refl, (refl, (refl, (refl, (refl, (refl, (refl, (refl, (refl, (refl, (refl, (refl, ((refl, refl), ((refl, refl), ((refl, refl), ((refl, refl), ((refl, refl), ((refl, refl), (refl, (refl, (refl, (refl, (refl, (refl, ((refl, refl), ((refl, refl), ((refl, refl), (refl, (refl, ((refl, refl), tt))))))))))))))))))))))))))))))))))))))))))))))))))))))))))))))))))))))))))))))))))))))
+    (λ mode access. refl, (refl, (refl, (refl, (refl, (refl, (refl, (refl, (refl, (refl, (refl, (λ mode access. entry-tells mode access na4 0, (none-tells, (λ mode access. entry-tells mode access napot 0, (λ mode access. refl, (none-tells, (λ mode access. refl, (λ mode access. entry-tells mode access napot 0, (none-tells, (λ mode access. refl, (none-tells, (λ mode access. entry-tells mode access napot 0, (λ mode access. refl, (λ mode access. refl, (none-tells, (none-tells, (λ mode access. entry-tells mode access napot 1, (λ mode access. refl, (λ mode access. refl, (none-tells, (λ mode access. entry-tells mode access na4 15, (λ mode access. refl, (none-tells, (refl, (refl, (refl, (refl, (refl, (refl, (refl, (refl, (refl, (refl, (refl, (refl, (refl, (refl, (refl, (refl, (refl, (refl, (refl, (refl, ((refl, refl), ((refl, refl), ((refl, refl), (refl, (refl, (refl, (refl, (refl, (refl, (refl, (refl, (refl, (refl, (refl, (refl, ((refl, refl), ((refl, refl), ((refl, refl), ((refl, refl), ((refl, refl), ((refl, refl), (refl, (refl, (refl, (refl, (refl, (refl, ((refl, refl), ((refl, refl), ((refl, refl), (refl, (refl, ((refl, refl), ((refl, refl), ((refl, refl), ((refl, refl), ((refl, refl), ((refl, refl), ((refl, refl), ((refl, refl), ((refl, refl), ((refl, refl), ((refl, refl), ((refl, refl), ((refl, refl), ((refl, refl), ((refl, refl), ((refl, refl), ((refl, refl), ((refl, refl), ((refl, refl), ((refl, refl), ((refl, refl), ((refl, refl), ((refl, refl), ((refl, refl), ((refl, refl), tt))))))))))))))))))))))))))))))))))))))))))))))))))))))))))))))))))))))))))))))))))))))))))))))))))))))))))))))

@@ -1,4 +1,4 @@
--- 01, "What has to be nailed", and 02, [8] and [9]: what a query after a run answers, said by the registers alone. One memory is lent to the whole run.
+-- 01, "What has to be nailed", and 02, [8] to [10]: what a query after a run answers, said by the registers alone. One memory is lent to the whole run.
 use Prim.Native.Nat.{ℕ}
 use mathlib.Core.Bool.{cond}
 use mathlib.Core.List.{List, []}
@@ -12,10 +12,9 @@ use Rattle.steps.specs.Number.{refusalOf}
 use Rattle.steps.specs.Decode.{stepsOf, nameSteps}
 use Rattle.paging.specs.Memory.{Memory}
 use Rattle.state.specs.declared.State.{State}
+use Rattle.text.specs.declared.Form.{Form}
 use Rattle.engine.specs.Runs.{Lent, lent, afterAll}
-use Rattle.hart.specs.declared.Stepped.{Stepped}
-use Rattle.hart.specs.Steps.{resetMapped}
-use Rattle.hart.specs.Saved.{restored}
+use Rattle.hart.specs.Saved.{readAnew}
 
 -- the steps that numbers name, three for each; where three of them name none, or one or two are left over, no step is taken
 abbrev pub stepsIn : Memory → List ℕ → List Lent
@@ -26,13 +25,9 @@ abbrev pub ruleAfter : State → List Lent → Mode → Access → ℕ → ℕ �
 ruleAfter s steps mode access address size =
     checked (afterAll s steps .pmp .grain) (afterAll s steps .pmp .cfgs) (afterAll s steps .pmp .addrs) mode access address size
 
--- what reading a text back gives, where nothing stood before
-abbrev pub readBack : List ℕ → Stepped
-readBack text = restored (resetMapped 0 .hart) (resetMapped 0 .map) text
-
--- the same from the state of a text; a refused text answers with its refusal
-unfoldable pub ruleFromText : List ℕ → List Lent → Mode → Access → ℕ → ℕ → Decision
-ruleFromText text steps mode access address size =
-    cond (eqb (refusalOf (readBack text .answer)) 0)
-    (ruleAfter (readBack text .hart .state) steps mode access address size)
-    (Refused (refusalOf (readBack text .answer)))
+-- the same from the state of a text of either form; a refused text answers with its refusal
+unfoldable pub ruleFromText : Form → List ℕ → List Lent → Mode → Access → ℕ → ℕ → Decision
+ruleFromText form text steps mode access address size =
+    cond (eqb (refusalOf (readAnew form text .answer)) 0)
+    (ruleAfter (readAnew form text .hart .state) steps mode access address size)
+    (Refused (refusalOf (readAnew form text .answer)))

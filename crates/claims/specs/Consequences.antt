@@ -49,7 +49,9 @@ use Rattle.map.specs.declared.Map.{Map}
 use Rattle.map.specs.Lookup.{findRange, rangesIn, ownerIn}
 use Rattle.map.specs.Ranges.{IsMap}
 use Rattle.map.specs.Boundaries.{Boundaries}
-use Rattle.text.specs.Text.{textOf, readAs, readText}
+use Rattle.text.specs.declared.Form.{Form}
+use Rattle.text.specs.declared.Form.the-variants.{First, Second}
+use Rattle.text.specs.Text.{textOf, lineCount, completed, readAs, readText}
 use Rattle.engine.specs.Effects.{withRegisters, withSatp, satpOperated}
 use Rattle.hart.specs.declared.Hart.{Hart}
 use Rattle.hart.specs.declared.Stepped.{Stepped}
@@ -58,7 +60,7 @@ use Rattle.hart.specs.Queries.{queryAnswer}
 use Rattle.hart.specs.Saved.{textFor}
 use Rattle.claims.specs.InterruptOrder.{TakesFirst}
 use Rattle.claims.specs.Refusals.{memoryRefusal}
-use Rattle.claims.specs.SavedLines.{keyed, keyedText, resetLines, joined}
+use Rattle.claims.specs.SavedLines.{keyed, keyedSecond, keyedText, resetLines, resetSecond, joined}
 
 -- ---- registers of one value
 
@@ -327,14 +329,20 @@ pub record Consequences : Type 0 where
   -- "owner being the lowest entry matching each byte or none"
   pub owner : (spans : ℕ → Span) (byte : ℕ) → LowestOwner spans byte (ownerOf spans byte)
   -- "41 lines, each key, `=`, 16 lower-case hexadecimal digits, line feed; 1,027 bytes. Keys in this order"
-  pub lines : (s : State) → (textFor (hartWith s) ≡ keyedText (keyed s)) × (length (keyed s) ≡ 41) × (length (textFor (hartWith s)) ≡ 1027)
+  pub lines : (s : State) → (textFor First (hartWith s) ≡ keyedText (keyed s)) × (length (keyed s) ≡ 41) × (length (textFor First (hartWith s)) ≡ 1027)
+  -- 02, [10]: "a line `form=` and the value 2, then 01's 41 lines, then `satp` and `grain`, same style, 1,094 bytes"
+  pub second-lines : (s : State)
+      → (textFor Second (hartWith s) ≡ keyedText (keyedSecond s)) × (length (keyedSecond s) ≡ 44) × (length (textFor Second (hartWith s)) ≡ 1094)
   pub digits : hexDigits 16 0x0123456789ABCDEF ≡ bytesOf "0123456789abcdef"
   -- "The reset state is that text with every value 0 except mode 3, pc 1000, mstatus a00000000."
-  pub reset-text : textFor (hartWith (resetState 0)) ≡ joined resetLines
-  -- reading and writing a text are inverse: 41 words below 2^64 are read from their text, what is read as words is their text, and what is refused is no text
-  pub text-read : (words : List ℕ) → Words 41 words → readText (textOf words) ≡ readAs words
-  pub read-text : (text words : List ℕ) → readText text ≡ readAs words → (text ≡ textOf words) × Words 41 words
-  pub unread : (text words : List ℕ) → readText text .ok ≡ false → Words 41 words → text ≡ textOf words → ⊥
+  pub reset-text : textFor First (hartWith (resetState 0)) ≡ joined resetLines
+  pub reset-second : textFor Second (hartWith (resetState 0)) ≡ joined resetSecond
+  -- reading and writing a text are inverse: words below 2^64 are read from their text, but 0 for a word that the form has no line for; what is read as words is
+  -- their text; and what is refused is no text
+  pub text-read : (form : Form) (words : List ℕ) → Words 43 words
+      → readText form (textOf form words) ≡ readAs (completed form (take (lineCount form) words))
+  pub read-text : (form : Form) (text words : List ℕ) → readText form text ≡ readAs words → (text ≡ textOf form words) × Words 43 words
+  pub unread : (form : Form) (text words : List ℕ) → readText form text .ok ≡ false → Words 43 words → text ≡ textOf form words → ⊥
   -- "The map lists ranges (first byte, last byte, owner), owner being the lowest entry matching each byte or none. In order, no gap, no overlap,
   -- from 0 to 2^56-1, neighbours never with one owner." 02, [7]: "sixteen entries make at most 32 inner boundaries, each the first byte an entry
   -- matches or the byte after its last". Both for any grain, bytes and addresses of the sixteen entries

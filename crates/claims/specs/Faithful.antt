@@ -1,4 +1,4 @@
--- 01, "What has to be nailed", and 02, [5], [8] and [9]: demand 3, one claim about the whole list of steps, each with the memory lent at it.
+-- 01, "What has to be nailed", and 02, [5] and [8] to [10]: demand 3, one claim about the whole list of steps, each with the memory lent at it.
 use Prim.Native.Nat.{ℕ, _+_, _≤_, _<_}
 use mathlib.Core.Path.{_≡_}
 use mathlib.Core.Bool.{true}
@@ -20,6 +20,7 @@ use Rattle.map.specs.declared.Range.{Range}
 use Rattle.map.specs.Lookup.{findRange, rangesIn}
 use Rattle.map.specs.Ranges.{IsMap}
 use Rattle.map.specs.Painting.{rangesOf}
+use Rattle.text.specs.declared.Form.{Form}
 use Rattle.engine.specs.Runs.{Lent, afterAll}
 use Rattle.hart.specs.declared.Hart.{Hart}
 use Rattle.hart.specs.declared.Mapped.{Mapped}
@@ -28,12 +29,13 @@ use Rattle.hart.specs.Queries.{queryAnswer}
 use Rattle.hart.specs.Runs.{leftBy}
 use Rattle.hart.specs.Saved.{restored}
 
--- the state and map that reading a text back gives, whatever hart and map went in
+-- the state and map that reading a text of either form back gives, whatever hart and map went in
 pub record FromText (start : Mapped) : Type 0 where
+  pub form : Form
   pub text : List ℕ
   pub hart : Hart
   pub map : Map
-  pub read : restored hart map text ≡ handedBack (start .hart) (start .map) Done
+  pub read : restored form hart map text ≡ handedBack (start .hart) (start .map) Done
 
 -- a run starts from the reset state and reset map of some grain, or from what reading a text back gives
 abbrev pub Start : Mapped → Type 0

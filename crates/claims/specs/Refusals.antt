@@ -1,14 +1,15 @@
--- 01, "Steps", with refusal 7 as 02, [5] widens it, and 12 and 13 of 02, [8] and [9]: the table of refusals and its order. A refusal returns its number and no more, and changes nothing.
+-- 01, "Steps", with refusal 7 as 02, [5] widens it, 12 and 13 of 02, [8] and [9], and 02, [10]: the table of refusals and its order. A refusal returns its number and no more, and changes nothing.
 use Prim.Native.Nat.{ℕ, _+_, _*_, _%_, _^_}
 use mathlib.Core.Path.{_≡_}
-use mathlib.Core.Bool.{Bool, true, cond, not, _&&_, _||_}
+use mathlib.Core.Bool.{Bool, true, false, cond, not, _&&_, _||_}
 use mathlib.Core.List.{List}
 use mathlib.Core.Logic.{_↔_}
 use mathlib.Core.Option.{Option, none, some}
 use lib.Bits.{bitAnd}
 use lib.Dec.{eqb, leb, ltb}
-use lib.ListN.{length}
+use lib.ListN.{length, take}
 use Rattle.bits.specs.Mask.{testBit}
+use Rattle.lines.specs.Lines.{bytesOf}
 use Rattle.pmp.specs.declared.Mode.{Mode}
 use Rattle.pmp.specs.declared.Access.{Access}
 use Rattle.pmp.specs.declared.Access.the-variants.{Fetch, Load, Store}
@@ -22,16 +23,18 @@ use Rattle.steps.specs.declared.Answer.the-variants.{Refused}
 use Rattle.paging.specs.Memory.{Memory}
 use Rattle.state.specs.declared.State.{State}
 use Rattle.state.specs.Hold.{canHold}
-use Rattle.state.specs.Texts.{textState}
+use Rattle.state.specs.Words.{stateOf}
 use Rattle.map.specs.declared.Map.{Map}
 use Rattle.map.specs.declared.Range.{Range}
 use Rattle.map.specs.Lookup.{findRange, rangesIn}
-use Rattle.text.specs.Text.{readText}
+use Rattle.text.specs.declared.Form.{Form}
+use Rattle.text.specs.declared.Form.the-variants.{First, Second}
+use Rattle.text.specs.Text.{other, readText}
 use Rattle.engine.specs.Effects.{isReset}
 use Rattle.hart.specs.declared.Hart.{Hart}
 use Rattle.hart.specs.Steps.{handedBack, stepped}
 use Rattle.hart.specs.Queries.{queryAnswer}
-use Rattle.hart.specs.Saved.{savedAnswer, savedBuffer, restored}
+use Rattle.hart.specs.Saved.{savedAnswer, savedBuffer, restored, convertedAnswer, convertedBuffer}
 
 -- ---- the table: the number of the refusal, or none
 
@@ -92,21 +95,37 @@ queryRefusal s map address size =
     (some 1))
     (some 3)
 
--- satp, the grain or SUM, bit 18 of mstatus, is not 0, or medeleg has a bit outside 0x3FF
-abbrev pub textless : State → Bool
-textless s =
+-- 02, [10]: "refusal 6 reads the length of the form asked for"
+abbrev pub bytesOfForm : Form → ℕ
+bytesOfForm First = 1027
+bytesOfForm Second = 1094
+
+-- a state that the form has no place for. The first: satp, the grain or SUM, bit 18 of mstatus, is not 0, or medeleg has a bit outside 0x3FF. The second: none
+abbrev pub unheldBy : Form → State → Bool
+unheldBy First s =
     not ((eqb (s .satp) 0 && eqb (s .pmp .grain) 0) && (not (testBit (s .registers .mstatus) 18) && eqb (bitAnd (s .registers .medeleg) 0x3FF) (s .registers .medeleg)))
+unheldBy Second s = false
 
--- 3 before 6: the buffer for saving is shorter than 1,027 bytes; 6 before 12
-abbrev pub saveRefusal : State → List ℕ → Option ℕ
-saveRefusal s buffer = cond (canHold s) (cond (leb 1027 (length buffer)) (cond (textless s) (some 12) none) (some 6)) (some 3)
+-- 6 before 12: the buffer is shorter than the form
+abbrev pub writeRefusal : Form → State → List ℕ → Option ℕ
+writeRefusal form s buffer = cond (leb (bytesOfForm form) (length buffer)) (cond (unheldBy form s) (some 12) none) (some 6)
 
--- 4 before 5: the text is not in the saved form; its state is not one a hart can hold, or "such an mstatus or medeleg"
-abbrev pub restoreRefusal : List ℕ → Option ℕ
-restoreRefusal text =
-    cond (readText text .ok)
-    (cond (canHold (textState (readText text .words)) && not (textless (textState (readText text .words)))) none (some 5))
-    (some 4)
+-- 3 before 6
+abbrev pub saveRefusal : Form → State → List ℕ → Option ℕ
+saveRefusal form s buffer = cond (canHold s) (writeRefusal form s buffer) (some 3)
+
+-- 4 before 5: the text is not in the form; its state is not one a hart can hold, or for the first form "such an mstatus or medeleg". Then what follows
+abbrev pub textRefusal : Form → List ℕ → (State → Option ℕ) → Option ℕ
+textRefusal form text next =
+    let s = stateOf (readText form text .words) in
+    cond (readText form text .ok) (cond (canHold s && not (unheldBy form s)) (next s) (some 5)) (some 4)
+
+abbrev pub restoreRefusal : Form → List ℕ → Option ℕ
+restoreRefusal form text = textRefusal form text (λ s. none)
+
+-- "new to old, and saving in the old form, is refusal 12 exactly if .. and no earlier one applies (order 3, 4, 5, 6, 12)"
+abbrev pub convertRefusal : Form → List ℕ → List ℕ → Option ℕ
+convertRefusal to text buffer = textRefusal (other to) text (λ s. writeRefusal to s buffer)
 
 -- ---- what is claimed
 
@@ -125,9 +144,17 @@ pub record RefusalTable : Type 0 where
   pub query : (h : Hart) (map : Map) (mode : Mode) (access : Access) (address size : ℕ)
       → Exactly (λ n. queryAnswer h map mode access address size ≡ Decision.Refused n) (queryRefusal (h .state) map address size)
   -- a save, and a refused one leaves the buffer as it was
-  pub save : (h : Hart) (buffer : List ℕ) → Exactly (λ n. savedAnswer h buffer ≡ Refused n) (saveRefusal (h .state) buffer)
-  pub save-unchanged : (h : Hart) (buffer : List ℕ) (n : ℕ) → savedAnswer h buffer ≡ Refused n → savedBuffer h buffer ≡ buffer
+  pub save : (form : Form) (h : Hart) (buffer : List ℕ) → Exactly (λ n. savedAnswer form h buffer ≡ Refused n) (saveRefusal form (h .state) buffer)
+  pub save-unchanged : (form : Form) (h : Hart) (buffer : List ℕ) (n : ℕ) → savedAnswer form h buffer ≡ Refused n → savedBuffer form h buffer ≡ buffer
   -- reading a text back, and a refused one hands back the hart and map that went in
-  pub restore : (h : Hart) (map : Map) (text : List ℕ) → Exactly (λ n. restored h map text .answer ≡ Refused n) (restoreRefusal text)
-  pub restore-unchanged : (h : Hart) (map : Map) (text : List ℕ) (n : ℕ) → restored h map text .answer ≡ Refused n
-      → restored h map text ≡ handedBack h map (Refused n)
+  pub restore : (form : Form) (h : Hart) (map : Map) (text : List ℕ) → Exactly (λ n. restored form h map text .answer ≡ Refused n) (restoreRefusal form text)
+  pub restore-unchanged : (form : Form) (h : Hart) (map : Map) (text : List ℕ) (n : ℕ) → restored form h map text .answer ≡ Refused n
+      → restored form h map text ≡ handedBack h map (Refused n)
+  -- a conversion, and a refused one leaves the buffer as it was
+  pub convert : (to : Form) (text buffer : List ℕ) → Exactly (λ n. convertedAnswer to text buffer ≡ Refused n) (convertRefusal to text buffer)
+  pub convert-unchanged : (to : Form) (text buffer : List ℕ) (n : ℕ) → convertedAnswer to text buffer ≡ Refused n → convertedBuffer to text buffer ≡ buffer
+  -- "each reader refuses the other's form by refusal 4", also where no hart can hold the text's state; so a text of the form asked for is not converted
+  pub other-form : (form : Form) (h : Hart) (map : Map) (text : List ℕ) → readText form text .ok ≡ true → restored (other form) h map text .answer ≡ Refused 4
+  pub same-form : (to : Form) (text buffer : List ℕ) → readText to text .ok ≡ true → convertedAnswer to text buffer ≡ Refused 4
+  -- "the second form begins with a line `form=` and the value 2": a text that begins otherwise is refused by 4
+  pub form-line : (h : Hart) (map : Map) (text : List ℕ) → (take 22 text ≡ bytesOf "form=0000000000000002\n" → ⊥) → restored Second h map text .answer ≡ Refused 4

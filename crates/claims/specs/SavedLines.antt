@@ -1,4 +1,5 @@
--- 01, "Saved text": its 41 lines with their registers, and the reset state's text as 01 gives it. The laws that the saved text is this stand in Consequences.
+-- 01, "Saved text", and 02, [10]: the lines of either form with their registers, and the reset state's texts. The laws that the saved texts are these stand in
+-- Consequences.
 use Prim.Native.Nat.{ℕ}
 use Prim.Native.String.{String}
 use mathlib.Core.List.{List, [], _∷_, _++_}
@@ -25,6 +26,10 @@ keyed s =
     ∷ ("pmpaddr5", getD a 5 0) ∷ ("pmpaddr6", getD a 6 0) ∷ ("pmpaddr7", getD a 7 0) ∷ ("pmpaddr8", getD a 8 0) ∷ ("pmpaddr9", getD a 9 0)
     ∷ ("pmpaddr10", getD a 10 0) ∷ ("pmpaddr11", getD a 11 0) ∷ ("pmpaddr12", getD a 12 0) ∷ ("pmpaddr13", getD a 13 0)
     ∷ ("pmpaddr14", getD a 14 0) ∷ ("pmpaddr15", getD a 15 0) ∷ []
+
+-- the second form has three lines more
+abbrev pub keyedSecond : State → List (String × ℕ)
+keyedSecond s = ("form", 2) ∷ keyed s ++ ("satp", s .satp) ∷ ("grain", s .pmp .grain) ∷ []
 
 -- a line for each
 abbrev pub keyedText : List (String × ℕ) → List ℕ
@@ -76,6 +81,9 @@ resetLines =
     ∷ "pmpaddr14=0000000000000000"
     ∷ "pmpaddr15=0000000000000000"
     ∷ []
+
+abbrev pub resetSecond : List String
+resetSecond = "form=0000000000000002" ∷ resetLines ++ "satp=0000000000000000" ∷ "grain=0000000000000000" ∷ []
 
 -- lines, each with its line feed
 abbrev pub joined : List String → List ℕ

@@ -1,7 +1,8 @@
--- 01, "Hand-checked settings", W1 to W12, the entries of [5] in W1 to W9, 02's own case of [2], writes to satp of [8], and [9] with G of 1, 2 and 10, as one table. Page tables have
+-- 01, "Hand-checked settings", W1 to W12, the entries of [5] in W1 to W9, 02's own case of [2], writes to satp of [8], [9] with G of 1, 2 and 10, and what a hart and the first form can hold, as one table. Page tables have
 -- their own, in paging/specs/Worked.
 use Prim.Native.Nat.{ℕ, zero, suc, _+_, _-_, _*_, _^_}
 use mathlib.Core.Path.{_≡_}
+use mathlib.Core.Bool.{Bool, true, false}
 use mathlib.Core.List.{List, [], _∷_}
 use lib.ListN.{length, getD, replicate}
 use Rattle.pmp.specs.declared.Mode.{Mode}
@@ -18,15 +19,19 @@ use Rattle.steps.specs.declared.Step.{Step}
 use Rattle.steps.specs.declared.Step.the-variants.{Event as EventStep}
 use Rattle.registers.specs.declared.Registers.{Registers}
 use Rattle.registers.specs.Hold.{resetRegisters}
-use Rattle.registers.specs.Update.{withFlow, withStatus, withInterrupts, withCounters}
+use Rattle.registers.specs.Update.{withFlow, withStatus, withMedeleg, withInterrupts, withCounters}
 use Rattle.protection.specs.declared.Pmp.{Pmp}
 use Rattle.protection.specs.Configs.{configsOf}
 use Rattle.protection.specs.Hold.{resetPmp}
 use Rattle.protection.specs.Read.{pmpRead}
 use Rattle.paging.specs.Memory.{memoryAt}
+use Rattle.state.specs.declared.State.{State}
+use Rattle.state.specs.Hold.{canHold}
 use Rattle.map.specs.declared.Range.{Range}
 use Rattle.map.specs.Ranges.{range}
 use Rattle.map.specs.Painting.{rangesOf}
+use Rattle.text.specs.declared.Form.the-variants.{First}
+use Rattle.hart.specs.Saved.{formHolds}
 use Rattle.engine.specs.Effects.{pmpOperated, satpOperated, stepRule}
 
 pub data Setting : Type 0 where
@@ -48,6 +53,8 @@ pub data Setting : Type 0 where
   configured : (grain held : ℕ) → Operation → (operand value : ℕ) → Setting
   -- by the grain and entry 0's byte, what pmpaddr0 reads, and what is stored after an operation
   addressed : (grain cfg held : ℕ) → Operation → (operand read stored : ℕ) → Setting
+  -- 02, [8] to [10]: the reset state with these in place, and entry 0's byte: whether a hart can hold it, and whether the first form of a text can
+  holdable : (mstatus medeleg translation grain cfg : ℕ) (hart first : Bool) → Setting
   -- after the step a register has this value
   leaves : Registers → Step → (Registers → ℕ) → ℕ → Setting
 
@@ -69,6 +76,11 @@ registersBy grain pmpcfg0 pmpaddr0 = record { grain = grain; cfgs = configsOf pm
 abbrev pub operatedBy : Pmp → Operation → ℕ → ℕ → Pmp
 operatedBy p op number operand = pmpOperated p op number operand (pmpRead p number)
 
+-- the reset state with these in place, and entry 0's byte
+abbrev pub stateWith : ℕ → ℕ → ℕ → ℕ → ℕ → State
+stateWith mstatus medeleg translation grain cfg =
+    record { registers = withMedeleg (withStatus resetRegisters mstatus) medeleg; pmp = registersBy grain cfg 0; satp = translation }
+
 -- what a setting says
 abbrev pub Right : Setting → Type 0
 Right (faults cfg addr address size entry) =
@@ -84,6 +96,8 @@ Right (configured grain held op operand value) = pmpRead (operatedBy (registersB
 Right (addressed grain cfg held op operand read stored) =
     let p = registersBy grain cfg held in
     (pmpRead p 0x3B0 ≡ read) × (getD (operatedBy p op 0x3B0 operand .addrs) 0 0 ≡ stored)
+Right (holdable mstatus medeleg translation grain cfg hart first) =
+    let s = stateWith mstatus medeleg translation grain cfg in (canHold s ≡ hart) × (formHolds First s ≡ first)
 Right (leaves r step register value) = register (stepRule (record { registers = r; pmp = resetPmp 0; satp = 0 }) (memoryAt [] 0) step .state .registers) ≡ value
 
 abbrev pub AllRight : List Setting → Type 0
@@ -240,4 +254,32 @@ settings =
     -- reading and matching take a G above 10 as 0
     ∷ second 11 0 3 tor 5 12 19
     ∷ addressed 11 0 0x7 Read 0 0x7 0x7
+    -- what a hart can hold of the longer state, and what of it the first form of a text can: mstatus within 0x7E19AA, of which SUM has no place in that form
+    ∷ holdable 0xA00000000 0 0 0 0 true true
+    ∷ holdable 0xA007A19AA 0 0 0 0 true true
+    ∷ holdable 0xA007E19AA 0 0 0 0 true false
+    ∷ holdable 0xA00040000 0 0 0 0 true false
+    ∷ holdable 0xA00800000 0 0 0 0 false true
+    -- medeleg within 0xB3FF, and there within 0x3FF
+    ∷ holdable 0xA00000000 0x3FF 0 0 0 true true
+    ∷ holdable 0xA00000000 0xB3FF 0 0 0 true false
+    ∷ holdable 0xA00000000 0x1000 0 0 0 true false
+    ∷ holdable 0xA00000000 0x400 0 0 0 false false
+    ∷ holdable 0xA00000000 0x4000 0 0 0 false false
+    ∷ holdable 0xA00000000 0x10000 0 0 0 false false
+    -- satp: MODE 0 or 8, ASID 0, PPN of 44 bits
+    ∷ holdable 0xA00000000 0 0x8000000000000000 0 0 true false
+    ∷ holdable 0xA00000000 0 0x00000FFFFFFFFFFF 0 0 true false
+    ∷ holdable 0xA00000000 0 0x80000FFFFFFFFFFF 0 0 true false
+    ∷ holdable 0xA00000000 0 0x9000000000000000 0 0 false false
+    ∷ holdable 0xA00000000 0 0x4000000000000000 0 0 false false
+    ∷ holdable 0xA00000000 0 0x1000000000000000 0 0 false false
+    ∷ holdable 0xA00000000 0 0x8000100000000000 0 0 false false
+    ∷ holdable 0xA00000000 0 0x8800000000000000 0 0 false false
+    -- a grain of 1 to 10, and with it no NA4
+    ∷ holdable 0xA00000000 0 0 1 0 true false
+    ∷ holdable 0xA00000000 0 0 10 napot true false
+    ∷ holdable 0xA00000000 0 0 11 0 false false
+    ∷ holdable 0xA00000000 0 0 0 na4 true true
+    ∷ holdable 0xA00000000 0 0 1 na4 false false
     ∷ []

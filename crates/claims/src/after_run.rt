@@ -4,6 +4,7 @@ use map::Map;
 use pmp::Access;
 use pmp::Decision;
 use pmp::Mode;
+use text::Form;
 ghost use mathlib.Core.Path.{_≡_};
 ghost use Rattle.paging.specs.Memory.{memoryAt};
 ghost use Rattle.state.specs.Hold.{resetState};
@@ -58,8 +59,9 @@ pub fn query_from_reset(
     query_after(hart, map, memory, base, steps, mode, access, address, size)
 }
 
-// A query after a run from a saved text. A refused text answers with its refusal.
+// A query after a run from a saved text of a form. A refused text answers with its refusal.
 pub fn query_from_text(
+    form: Form,
     text: &[u8],
     memory: &[u64],
     base: u64,
@@ -69,12 +71,12 @@ pub fn query_from_text(
     address: u64,
     size: u64,
 ) -> Decision
-    ensures { λ r. ⌜ r ≡ ruleFromText (now (text .entry)) (stepsIn (memoryAt (now (memory .entry)) base) (now (steps .entry))) mode access address size ⌝ }
+    ensures { λ r. ⌜ r ≡ ruleFromText form (now (text .entry)) (stepsIn (memoryAt (now (memory .entry)) base) (now (steps .entry))) mode access address size ⌝ }
 {
     let start = Hart::reset(0);
     let blank = start.hart;
     let given = start.map;
-    let read = blank.restore(given, text);
+    let read = blank.restore(given, form, text);
     let answer = read.answer;
     let refusal = steps::refusal_of(answer);
     if refusal == 0 {

@@ -7,6 +7,7 @@ mod query;
 mod saved;
 mod stepping;
 
+pub use saved::convert;
 pub use stepping::map_for;
 
 // The hart struct, on which the steps are methods. Its state may be one that no hart can hold, and is then refused.

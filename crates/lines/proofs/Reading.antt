@@ -48,6 +48,13 @@ key-same (b ∷ key) t rest p h =
     rw (from-place t p (omega arith), key-same key t rest (p + 1) (omega arith), s)
     (sym (and-assoc (eqb (getD t p 0) b) (areKey t (p + 1) key) (sameList (drop (p + 1 + length key) t) rest)))
 
+-- a text that begins with a key is judged by the key and by what follows it
+pub head-same : (t key rest : List ℕ) → length key ≤ length t → sameList t (key ++ rest) ≡ (hasKey t 0 key && sameList (drop (length key) t) rest)
+unfolding hasKey
+head-same t key rest h =
+    let z : 0 + length key ≡ length key = omega arith in
+    key-same key t rest 0 (rw z h) ∙ rw (z, le-leb (length key) (length t) h)
+
 -- ---- digits
 
 -- what stands above the n lowest digits of a number is what was given

@@ -1,5 +1,5 @@
-// replay [START] [MEMORY]: replays the trace on standard input from the saved text in the file START, or from reset, with the words in the file MEMORY for
-// page tables, or none.
+// replay [START] [MEMORY]: replays the trace on standard input from the saved text, of either form, in the file START, or from reset, with the words in the
+// file MEMORY for page tables, or none.
 use libc::STDERR_FILENO;
 use libc::STDIN_FILENO;
 use libc::STDOUT_FILENO;
@@ -8,11 +8,11 @@ fn usage(fd: i32) {
     io::write_all(fd, b"usage: replay [START] [MEMORY] <TRACE\n");
     io::write_all(
         fd,
-        b"Replays a trace from the saved text in the file START, or from reset, with the words\n",
+        b"Replays a trace from the saved text, of either form, in the file START, or from reset, with\n",
     );
     io::write_all(
         fd,
-        b"in the file MEMORY for page tables, or none. Either may be `-`, for no file.\n",
+        b"the words in the file MEMORY for page tables, or none. Either may be `-`, for no file.\n",
     );
     io::write_all(
         fd,

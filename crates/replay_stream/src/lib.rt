@@ -1,11 +1,8 @@
 // Replays a trace from a descriptor to standard output, in constant memory. What goes on from piece to piece is said in `trace`: here is the
 // reading and the writing alone.
 use libc::STDERR_FILENO;
-use libc::STDOUT_FILENO;
 use trace::Session;
 ghost use mathlib.Core.Path.{_≡_};
-ghost use Prim.Native.Nat.{_≤_};
-ghost use lib.ListN.{length};
 ghost use Rattle.paging.specs.Memory.{memoryAt};
 ghost use Rattle.trace.specs.Sessions.{resetSession, textSession};
 ghost use Rattle.replay_stream.specs.Streams.{isNone, memoryOf, memoryNamed, Lending, FromPaths};
@@ -15,48 +12,6 @@ ghost use Rattle.replay_stream.specs.Streams.{OnePiece, Streamed, Begun,
 pub struct Stream {
     pub session: Session,
     pub failed: bool,
-}
-
-// The bytes that came, and whether a read failed.
-struct Came {
-    count: usize,
-    failed: bool,
-}
-
-// Reads until the buffer is full, the input ends or a read fails.
-fn fill(fd: i32, buffer: &mut [u8]) -> Came
-    ensures { λ r. ⌜ r .count ≤ length (now (buffer .entry)) ⌝ }
-{
-    let mut n: usize = 0;
-    while n < buffer.len() {
-        let got = libc::read(fd, &mut buffer[n..]);
-        if got < 0 {
-            return Came {
-                count: n,
-                failed: true,
-            };
-        }
-        let more = io::count(got, &buffer[n..]);
-        if more == 0 {
-            return Came {
-                count: n,
-                failed: false,
-            };
-        }
-        n += more;
-    }
-    Came {
-        count: n,
-        failed: false,
-    }
-}
-
-fn write(bytes: &[u8]) -> bool {
-    if io::write_all(STDOUT_FILENO, bytes) {
-        return true;
-    }
-    os::fail(b"standard output");
-    false
 }
 
 // Reads a piece, feeds it and writes its lines. A failure leaves the session as it was.
@@ -70,7 +25,7 @@ fn piece(
 ) -> Stream
     ensures { λ r. ⌜ OnePiece (memoryAt (now (memory .entry)) base) session r ⌝ }
 {
-    let came = fill(fd, input);
+    let came = streams::fill(fd, input);
     if came.failed {
         os::fail(b"trace");
         return Stream {
@@ -84,16 +39,16 @@ fn piece(
     let next = fed.session;
     let filled = fed.filled;
     let lines = &out[..];
-    if write(&lines[0..filled]) {
-        Stream {
-            session: next,
-            failed: false,
-        }
-    } else {
-        Stream {
+    let wrote = streams::write(&lines[0..filled]);
+    if wrote.failed {
+        return Stream {
             session,
             failed: true,
-        }
+        };
+    }
+    Stream {
+        session: next,
+        failed: false,
     }
 }
 
@@ -120,10 +75,10 @@ fn pieces(
     }
     let filled = session.finish(out);
     let lines = &out[..];
-    let wrote = write(&lines[0..filled]);
+    let wrote = streams::write(&lines[0..filled]);
     Stream {
         session,
-        failed: !wrote,
+        failed: wrote.failed,
     }
 }
 
@@ -142,7 +97,7 @@ pub fn from_reset(memory: &[u64], base: u64, fd: i32) -> Stream
     replay(memory, base, fd, Session::from_reset())
 }
 
-// Replays them from a saved text. A refused text is told, and no record is read.
+// Replays them from a saved text in either form. A refused text is told, and no record is read.
 pub fn from_text(memory: &[u64], base: u64, text: &[u8], fd: i32) -> Stream
     ensures { λ r. ⌜ Streamed (memoryAt (now (memory .entry)) base) (textSession (now (text .entry))) r ⌝ }
 {
@@ -160,7 +115,7 @@ fn unread(path: &[u8]) -> Stream
     }
 }
 
-// The session from the saved text in a file. One byte more than a text has is enough to see that the file is too long.
+// The session from the saved text in a file. One byte more than a text of the second form has is enough to see that the file is too long.
 fn begin(path: &[u8]) -> Stream
     ensures { λ r. ⌜ Begun r ⌝ }
 {
@@ -168,8 +123,8 @@ fn begin(path: &[u8]) -> Stream
     if file < 0 {
         return unread(path);
     }
-    let mut text = [0u8; 1028];
-    let came = fill(file, &mut text);
+    let mut text = [0u8; 1095];
+    let came = streams::fill(file, &mut text);
     if came.failed {
         libc::close(file);
         return unread(path);
@@ -222,7 +177,7 @@ fn lend_read(
         os::fail(path);
         return unlent;
     }
-    let came = fill(file, text);
+    let came = streams::fill(file, text);
     if came.failed {
         os::fail(path);
         libc::close(file);

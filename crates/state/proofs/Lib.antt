@@ -2,4 +2,3 @@
 pub mod Back
 pub mod SliceLaws
 pub mod Held
-pub mod TextLaws

@@ -1,4 +1,4 @@
--- 01, "Saved text": the registers as words, in the order of its keys; then satp and the grain, of 02, [8] and [9], which that text does not have.
+-- 01, "Saved text": the registers as words, in the order of its keys; then satp and the grain, which only the second form of 02, [10] has.
 use Prim.Native.Nat.{ℕ}
 use mathlib.Core.List.{List, [], _∷_, _++_}
 use lib.ListN.{getD, take, drop}
@@ -42,12 +42,8 @@ registerWords r =
 abbrev pub pmpWords : Pmp → List ℕ
 pmpWords p = packed (take 8 (p .cfgs)) ∷ packed (drop 8 (p .cfgs)) ∷ elements entries 0 (p .addrs)
 
--- the 41 words of the saved text
-abbrev pub textWords : State → List ℕ
-textWords s = registerWords (s .registers) ++ pmpWords (s .pmp)
-
 unfoldable pub wordsOf : State → List ℕ
-wordsOf s = textWords s ++ s .satp ∷ s .pmp .grain ∷ []
+wordsOf s = registerWords (s .registers) ++ pmpWords (s .pmp) ++ s .satp ∷ s .pmp .grain ∷ []
 
 -- ---- and back
 

@@ -1,4 +1,4 @@
-// The registers in the order of the saved text, then satp and the grain, in a slice that is read and written where it lies. A slice of another length holds no state: it reads
+// The registers in the order of a saved text's lines, satp and the grain last, in a slice that is read and written where it lies. A slice of another length holds no state: it reads
 // as the reset state, and stays as it is.
 use crate::State;
 use crate::places;

@@ -1,3 +1,3 @@
 -- The definitions that the contracts cite.
 pub mod Text
-pub mod Forms
+pub mod Template

@@ -4,83 +4,20 @@ use mathlib.Core.Path.{_≡_, refl, sym, ap, _∙_}
 use mathlib.Core.Bool.{Bool, true, false, cond}
 use mathlib.Core.List.{List, [], _∷_, _++_, append-assoc, append-nil}
 use native.Mathlib.Omega.{arith}
-use native.Mathlib.Nat.{zero-add}
 use native.Mathlib.Numerals.{add-one}
 use lib.Dec.{eqb}
-use lib.ListN.{length, getD, take, drop, length-append, length-take}
-use lib.Seq.{sets-eq, take-suc}
-use borrow.Author.Tests.{le-leb}
-use Rattle.steps.specs.declared.Answer.the-variants.{Done, Refused}
-use Rattle.steps.specs.Number.{refusalOf}
+use lib.ListN.{length, getD, take, length-append, length-take}
+use lib.Seq.{take-suc}
 use Rattle.map.specs.declared.Range.{Range}
 use Rattle.map.specs.declared.Map.{Map}
 use Rattle.map.specs.Lookup.{rangesIn}
 use Rattle.lines.specs.Lines.{bytesOf, hexDigits}
-use Rattle.text.specs.Text.{writtenTo}
-use Rattle.text.proofs.Form.{text-length}
-use Rattle.state.specs.Words.{textWords}
-use Rattle.state.specs.Texts.{hasText}
-use Rattle.hart.specs.declared.Hart.{Hart}
-use Rattle.state.specs.Hold.{canHold}
-use Rattle.hart.specs.Saved.{textFor, savedAnswer, savedBuffer}
 use Rattle.trace.specs.declared.Replay.{Replay}
-use Rattle.trace.specs.Buffers.{Put}
-use Rattle.trace.specs.Answers.{decimal, numberedLine, refusedLine}
-use Rattle.trace.specs.Endings.{stateText, ownerText, rangeLine, rangeLines, ending}
+use Rattle.trace.specs.Answers.{decimal, numberedLine}
+use Rattle.trace.specs.SavedTexts.{stateText}
+use Rattle.trace.specs.Endings.{ownerText, rangeLine, rangeLines, ending}
 use Rattle.trace.proofs.Writing.{decimal-length, hex-length, numbered-length}
-
--- ---- the state
-
--- a buffer that has room, the answer to saving into it, and what it is then
-module _ (h : Hart) (buffer : List ℕ) {after : List ℕ} {refusal : ℕ} (room : 1027 ≤ length buffer) (r : refusal ≡ refusalOf (savedAnswer h buffer))
-    (e : after ≡ savedBuffer h buffer) where
-  -- the number of the refusal, by what can be held
-  saved-refusal : (b c : Bool) → canHold (h .state) ≡ b → hasText (h .state) ≡ c → refusal ≡ cond b (cond c 0 12) 3
-  unfolding savedAnswer
-  saved-refusal b c p q = r ∙ rw (p, le-leb 1027 (length buffer) room, q) (go b c)
-    where
-      go : (x y : Bool) → refusalOf (cond x (cond y Done (Refused 12)) (Refused 3)) ≡ cond x (cond y 0 12) 3
-      go true true = refl
-      go true false = refl
-      go false y = refl
-
-  pub state-put : refusal ≡ 0 → Put buffer 0 (stateText h) after 1027
-  unfolding savedBuffer writtenTo stateText
-  state-put z = go (canHold (h .state)) (hasText (h .state)) refl refl
-    where
-      go : (b c : Bool) → canHold (h .state) ≡ b → hasText (h .state) ≡ c → Put buffer 0 (stateText h) after 1027
-      go true true p q =
-          let n : length (textFor h) ≡ 1027 = text-length (textWords (h .state)) in
-          rw (p, q) (record {
-            bytes =
-                e ∙ rw (p, q, le-leb 1027 (length buffer) room)
-                (sym (sets-eq (textFor h) buffer 0 (omega arith) ∙ ap (λ (k : ℕ). textFor h ++ drop k buffer) (zero-add (length (textFor h)) ∙ n)));
-            behind = omega arith;
-          })
-      go true false p q = absurd (omega (arith, z, saved-refusal true false p q))
-      go false c p q = absurd (omega (arith, z, saved-refusal false c p q))
-
-  pub state-refused : {last : List ℕ} {next : ℕ} → (refusal ≡ 0 → ⊥) → Put after 0 (refusedLine refusal) last next → Put buffer 0 (stateText h) last next
-  unfolding savedBuffer stateText
-  state-refused {last} {next} z put = go (canHold (h .state)) (hasText (h .state)) refl refl
-    where
-      go : (b c : Bool) → canHold (h .state) ≡ b → hasText (h .state) ≡ c → Put buffer 0 (stateText h) last next
-      go true true p q = absurd (z (saved-refusal true true p q))
-      go true false p q =
-          let stays : savedBuffer h buffer ≡ buffer = rw (p, q) in
-          rw (p, q) (rw (saved-refusal true false p q, e, stays) at put)
-      go false c p q =
-          let stays : savedBuffer h buffer ≡ buffer = rw p in
-          rw p (rw (saved-refusal false c p q, e, stays) at put)
-
-pub state-length : (h : Hart) → length (stateText h) ≤ 1027
-unfolding stateText bytesOf
-state-length h = go (canHold (h .state)) (hasText (h .state))
-  where
-    go : (b c : Bool) → length (cond b (cond c (textFor h) (refusedLine 12)) (refusedLine 3)) ≤ 1027
-    go true true = omega (arith, text-length (textWords (h .state)))
-    go true false = omega (arith, numbered-length (bytesOf "refused ") 12)
-    go false c = omega (arith, numbered-length (bytesOf "refused ") 3)
+use Rattle.trace.proofs.SavedTexts.{state-length}
 
 -- ---- ranges
 

@@ -2,6 +2,8 @@
 pub mod Writing
 pub mod WorkedLines
 pub mod Batching
+pub mod SavedTexts
+pub mod TextOutput
 pub mod Endings
 pub mod Cutting
 pub mod Replaying

@@ -1,4 +1,4 @@
--- A replay leaves what the steps of its records leave, and a state that is saved or has no text. Assumes nothing.
+-- A replay leaves what the steps of its records leave, and a state that has a saved text. Assumes nothing.
 use Prim.Native.Nat.{ℕ, _+_, _%_, _^_}
 use mathlib.Core.Path.{_≡_, refl, ap, _∙_}
 use mathlib.Core.Bool.{Bool, true, false, cond}
@@ -9,7 +9,6 @@ use Rattle.steps.specs.declared.Decoded.{Decoded}
 use Rattle.steps.specs.declared.Decoded.the-variants.{Formed, Nothing}
 use Rattle.paging.specs.Memory.{Memory}
 use Rattle.state.specs.Hold.{canHold}
-use Rattle.state.specs.Texts.{hasText}
 use Rattle.map.specs.declared.Map.{Map}
 use Rattle.engine.specs.Runs.{lent}
 use Rattle.engine.proofs.Holds.{rule-holds}
@@ -22,8 +21,7 @@ use Rattle.hart.specs.Steps.{stepped}
 use Rattle.hart.specs.Runs.{with, leftBy}
 use Rattle.hart.proofs.StepLaws.{step-parts}
 use Rattle.trace.specs.declared.Replay.{Replay}
-use Rattle.trace.specs.Answers.{refusedLine}
-use Rattle.trace.specs.Endings.{stateText}
+use Rattle.trace.specs.SavedTexts.{formFor, stateText}
 use Rattle.trace.specs.Batches.{afterDecoded, afterRecord, recordsOf, afterRecords, stepThen, stepsRead}
 use Rattle.trace.proofs.Batching.{stopped-still}
 
@@ -52,7 +50,7 @@ module _ (m : Memory) where
       go (Formed step) rest = rest (stepped h map m step .hart) (stepped h map m step .map) ((number + 1) % 2 ^ 64)
       go Nothing rest = ap heldBy (stopped-still m (afterDecoded m (going h map number) Nothing) refl ts .0)
 
-  -- ---- a state that a hart can hold stays one, so that 12 is the one refusal of saving it
+  -- ---- a state that a hart can hold stays one, so that it is always saved
 
   record-holds : (r : Replay) (t : List ℕ) → Holds r → Holds (afterRecord m r t)
   unfolding afterRecord
@@ -68,6 +66,6 @@ module _ (m : Memory) where
 
   pub replay-saved : (n : ℕ) (r : Replay) (t : List ℕ) → canHold (r .hart .state) ≡ true →
       let h = afterRecords m n r t .hart in
-      stateText h ≡ cond (hasText (h .state)) (textFor h) (refusedLine 12)
+      stateText h ≡ textFor (formFor (h .state)) h
   unfolding stateText
   replay-saved n r t h = rw (replay-holds n r t h)

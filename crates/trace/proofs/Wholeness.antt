@@ -13,6 +13,8 @@ use Rattle.steps.specs.Number.{refusalOf}
 use Rattle.steps.specs.declared.Answer.the-variants.{Done, Refused}
 use Rattle.paging.specs.Memory.{Memory}
 use Rattle.map.specs.declared.Map.{Map}
+use Rattle.text.specs.declared.Form.{Form}
+use Rattle.text.specs.Text.{readText}
 use Rattle.hart.specs.declared.Hart.{Hart}
 use Rattle.hart.specs.Steps.{resetMapped, handedBack}
 use Rattle.trace.specs.declared.Replay.{Replay}
@@ -21,7 +23,9 @@ use Rattle.trace.specs.Answers.{refusedLine}
 use Rattle.trace.specs.Batches.{recordsOf, afterRecords, recordLines, afterInput, inputLines}
 use Rattle.trace.specs.Endings.{ending, leftOver}
 use Rattle.trace.specs.Sessions.{resetSession, readSession, textSession, fullPiece, continued, afterPiece, pieceLines, sessionEnding, afterPieces, piecesLines, allWritten}
+use Rattle.hart.specs.Saved.{readAnew}
 use Rattle.trace.specs.InPieces.{replayed, joined, AllFull, unread, begun, fromText, InPieces}
+use Rattle.trace.proofs.SavedTexts.{form-read}
 use Rattle.trace.proofs.Batching.{stopped-still}
 use Rattle.trace.proofs.Cutting.{records-cut, lines-cut}
 use Rattle.trace.proofs.Sessions.{piece-still, piece-goes}
@@ -52,6 +56,9 @@ text-read text = refl
 
 from-text : (text : List ℕ) (h : Hart) (map : Map) → fromText text ≡ handedBack h map Done → textSession text ≡ begun h map
 from-text text h map e = text-read text ∙ (λ j. readSession (e j))
+
+either-form : (form : Form) (text : List ℕ) → readText form text .ok ≡ true → fromText text ≡ readAnew form text
+either-form form text e = ap (λ (f : Form). readAnew f text) (form-read form text e)
 
 refused-text : (text : List ℕ) (n : ℕ) → fromText text .answer ≡ Refused n → (n ≡ 0 → ⊥) → (textSession text .more ≡ false) × (textSession text .refusal ≡ n)
 refused-text text n e z = (
@@ -188,6 +195,7 @@ module _ (m : Memory) where
     stays = λ s p h. piece-still m s p h .0;
     from-reset = from-reset;
     from-text = from-text;
+    either-form = either-form;
     refused-text = refused-text;
     reset-whole = λ full last. begun-whole resetSession (resetMapped 0 .hart) (resetMapped 0 .map) full last from-reset;
     text-whole = λ text h map full last e. begun-whole (textSession text) h map full last (from-text text h map e);

@@ -1,4 +1,4 @@
--- What replay writes behind the lines of the records: the saved text of the end state or the refusal of saving it, the ranges of the map, and the bytes left over.
+-- What replay writes behind the lines of the records: the saved text of the end state, the ranges of the map, and the bytes left over.
 use Prim.Native.Nat.{ℕ, _%_}
 use mathlib.Core.Bool.{Bool, cond}
 use mathlib.Core.List.{List, [], _∷_, _++_}
@@ -7,16 +7,9 @@ use Rattle.pmp.specs.Rule.{none}
 use Rattle.map.specs.declared.Range.{Range}
 use Rattle.map.specs.Lookup.{rangesIn}
 use Rattle.lines.specs.Lines.{bytesOf, hexDigits}
-use Rattle.hart.specs.declared.Hart.{Hart}
-use Rattle.state.specs.Hold.{canHold}
-use Rattle.state.specs.Texts.{hasText}
-use Rattle.hart.specs.Saved.{textFor}
 use Rattle.trace.specs.declared.Replay.{Replay}
-use Rattle.trace.specs.Answers.{decimal, numberedLine, refusedLine}
-
--- the saved text, or the line of the refusal of saving: 3 where no hart can hold the state, 12 where it has no text in 01's form (02, [8])
-unfoldable pub stateText : Hart → List ℕ
-stateText h = cond (canHold (h .state)) (cond (hasText (h .state)) (textFor h) (refusedLine 12)) (refusedLine 3)
+use Rattle.trace.specs.Answers.{decimal, numberedLine}
+use Rattle.trace.specs.SavedTexts.{stateText}
 
 unfoldable pub ownerText : ℕ → List ℕ
 ownerText owner = cond (eqb owner none) (bytesOf "none") (decimal owner)

@@ -11,11 +11,14 @@ use Rattle.map.specs.declared.Map.{Map}
 use Rattle.hart.specs.declared.Hart.{Hart}
 use Rattle.hart.specs.declared.Stepped.{Stepped}
 use Rattle.hart.specs.Steps.{resetMapped, handedBack}
-use Rattle.hart.specs.Saved.{restored}
+use Rattle.text.specs.declared.Form.{Form}
+use Rattle.text.specs.Text.{readText}
+use Rattle.hart.specs.Saved.{readAnew}
 use Rattle.trace.specs.declared.Replay.{Replay}
 use Rattle.trace.specs.declared.Session.{Session}
 use Rattle.trace.specs.Answers.{refusedLine}
 use Rattle.trace.specs.Batches.{afterInput, inputLines}
+use Rattle.trace.specs.SavedTexts.{formByLength}
 use Rattle.trace.specs.Endings.{ending}
 use Rattle.trace.specs.Sessions.{resetSession, textSession, afterPiece, sessionEnding, afterPieces, allWritten}
 
@@ -39,9 +42,9 @@ unread h map = record { hart = h; map = map; number = 0; stopped = false }
 abbrev pub begun : Hart → Map → Session
 begun h map = record { replay = unread h map; left = 0; more = true; refusal = 0 }
 
--- a text read back
+-- a text whose length tells the form, read back
 abbrev pub fromText : List ℕ → Stepped
-fromText text = restored (resetMapped 0 .hart) (resetMapped 0 .map) text
+fromText text = readAnew (formByLength text) text
 
 pub record InPieces (m : Memory) : Type 0 where
   -- full pieces and a shorter last one, from any session that has not ended
@@ -69,6 +72,8 @@ pub record InPieces (m : Memory) : Type 0 where
   pub from-reset : resetSession ≡ begun (resetMapped 0 .hart) (resetMapped 0 .map)
   -- the other is the hart and map of a text that is taken, and nothing read
   pub from-text : (text : List ℕ) (h : Hart) (map : Map) → fromText text ≡ handedBack h map Done → textSession text ≡ begun h map
+  -- a text in either form is read in that form (02, [10])
+  pub either-form : (form : Form) (text : List ℕ) → readText form text .ok ≡ true → fromText text ≡ readAnew form text
   -- a refused text ends its session at once, with the number of the refusal
   pub refused-text : (text : List ℕ) (n : ℕ) → fromText text .answer ≡ Refused n → (n ≡ 0 → ⊥)
       → (textSession text .more ≡ false) × (textSession text .refusal ≡ n)

@@ -3,6 +3,8 @@ pub mod Buffers
 pub mod Answers
 pub mod WorkedLines
 pub mod Batches
+pub mod SavedTexts
+pub mod TextOutput
 pub mod Endings
 pub mod Sessions
 pub mod InPieces

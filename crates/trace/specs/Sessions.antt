@@ -11,13 +11,14 @@ use Rattle.map.specs.declared.Map.{Map}
 use Rattle.hart.specs.declared.Hart.{Hart}
 use Rattle.hart.specs.declared.Stepped.{Stepped}
 use Rattle.hart.specs.Steps.{resetMapped}
-use Rattle.hart.specs.Saved.{restored}
+use Rattle.hart.specs.Saved.{readAnew}
 use Rattle.trace.specs.declared.Replay.{Replay}
 use Rattle.trace.specs.declared.Session.{Session}
 use Rattle.trace.specs.declared.Fed.{Fed}
 use Rattle.trace.specs.Buffers.{writtenLength}
 use Rattle.trace.specs.Answers.{refusedLine}
 use Rattle.trace.specs.Batches.{afterInput, inputLines}
+use Rattle.trace.specs.SavedTexts.{formByLength}
 use Rattle.trace.specs.Endings.{ending, leftOver}
 
 -- a session that starts with a hart and its map; a refusal other than 0 has ended it
@@ -29,16 +30,16 @@ sessionFrom h map refusal = record {
   refusal = refusal;
 }
 
--- 02, [9]: from reset with a grain of 4 bytes, the only one that a text of 01 has
+-- 02, [9]: from reset with a grain of 4 bytes, as 01's hart has it
 unfoldable pub resetSession : Session
 resetSession = sessionFrom (resetMapped 0 .hart) (resetMapped 0 .map) 0
 
--- 01, "Saved text": what reading a text back gives; a refused text starts nothing
+-- 01, "Saved text", and 02, [10]: what reading a text of either form back gives; a refused text starts nothing
 abbrev pub readSession : Stepped → Session
 readSession read = sessionFrom (read .hart) (read .map) (refusalOf (read .answer))
 
 unfoldable pub textSession : List ℕ → Session
-textSession text = readSession (restored (resetMapped 0 .hart) (resetMapped 0 .map) text)
+textSession text = readSession (readAnew (formByLength text) text)
 
 -- a full piece has 1,024 records
 abbrev pub fullPiece : ℕ

@@ -1,10 +1,10 @@
 // What is written behind the lines of the records.
 use crate::Replay;
+use crate::saved::put_state;
 use crate::writer::put;
 use crate::writer::put_decimal;
 use crate::writer::put_numbered;
 use crate::writer::put_word;
-use hart::Hart;
 use map::Map;
 use map::Range;
 ghost use mathlib.Core.Path.{_≡_};
@@ -12,21 +12,7 @@ ghost use Prim.Native.Nat.{_+_, _≤_};
 ghost use lib.ListN.{length};
 ghost use Rattle.map.specs.Lookup.{rangesIn};
 ghost use Rattle.trace.specs.Buffers.{Put};
-ghost use Rattle.trace.specs.Endings.{stateText, ownerText, rangeLine, rangeLines, ending, leftOver};
-
-// The saved text, or the refusal in its place.
-fn put_state(hart: Hart, out: &mut [u8]) -> usize
-    requires { ⌜ 1027 ≤ length (now out) ⌝ }
-    ensures { λ r. ⌜ Put (now (out .entry)) 0 (stateText hart) (now (out .exit)) r ⌝ }
-{
-    let answer = hart.save(out);
-    let refusal = steps::refusal_of(answer);
-    if refusal == 0 {
-        1027
-    } else {
-        put_numbered(b"refused ", refusal, out, 0)
-    }
-}
+ghost use Rattle.trace.specs.Endings.{ownerText, rangeLine, rangeLines, ending, leftOver};
 
 fn put_owner(owner: u64, out: &mut [u8], place: usize) -> usize
     requires { ⌜ place + 20 ≤ length (now out) ⌝ }
@@ -72,7 +58,7 @@ pub(crate) fn left_over(stopped: bool, came: usize) -> u64
     if stopped { 0 } else { (came % 60) as u64 }
 }
 
-// The saved text of the end state or its refusal, the ranges of the map and the bytes left over.
+// The saved text of the end state, the ranges of the map and the bytes left over.
 pub(crate) fn put_ending(replay: Replay, left: u64, out: &mut [u8]) -> usize
     requires { ⌜ 4096 ≤ length (now out) ⌝ }
     ensures { λ r. ⌜ Put (now (out .entry)) 0 (ending replay left) (now (out .exit)) r ⌝ }

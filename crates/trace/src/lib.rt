@@ -1,11 +1,14 @@
-// A trace: records of steps, and the lines that answer them.
+// A trace: records of steps, and the lines that answer them; and saved texts, as programs read and write them.
 use hart::Hart;
 use map::Map;
 
 mod batch;
 mod ending;
 mod pieces;
+mod saved;
 mod writer;
+
+pub use saved::write_converted;
 
 // What goes on from one record to the next: the hart with its map, the number of the next record, and whether a broken record ended the replay.
 pub struct Replay {

@@ -5,6 +5,7 @@ use crate::Session;
 use crate::batch::batch;
 use crate::ending::left_over;
 use crate::ending::put_ending;
+use crate::saved::form_by_length;
 use crate::writer::put_numbered;
 use hart::Hart;
 use map::Map;
@@ -43,14 +44,15 @@ impl Session {
         session_from(hart, map, 0)
     }
 
-    // A session from a saved text. A refused text has ended it.
+    // A session from a saved text in either form. A refused text has ended it.
     pub fn from_text(text: &[u8]) -> Session
         ensures { λ r. ⌜ r ≡ textSession (now (text .entry)) ⌝ }
     {
         let reset = Hart::reset(0);
         let before = reset.hart;
         let given = reset.map;
-        let read = before.restore(given, text);
+        let form = form_by_length(text);
+        let read = before.restore(given, form, text);
         let answer = read.answer;
         let refusal = steps::refusal_of(answer);
         let hart = read.hart;
@@ -95,8 +97,8 @@ impl Session {
         }
     }
 
-    // Writes what comes behind the lines of the records to the front of a buffer of at least 4,096 bytes: the saved text of the end state
-    // or the refusal of saving it, the ranges of the map and the bytes left over, or the refusal of the text that was to be the start alone. Nothing is written where there may be more input.
+    // Writes what comes behind the lines of the records to the front of a buffer of at least 4,096 bytes: the saved text of the end state,
+    // the ranges of the map and the bytes left over, or the refusal of the text that was to be the start alone. Nothing is written where there may be more input.
     pub fn finish(self, out: &mut [u8]) -> usize
         ensures { λ r. ⌜ r ≡ writtenLength 4096 (sessionEnding self) (now (out .entry)) ⌝ }
         ensures { λ _. ⌜ now (out .exit) ≡ writtenFront 4096 (sessionEnding self) (now (out .entry)) ⌝ }

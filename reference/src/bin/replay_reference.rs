@@ -1,6 +1,6 @@
 //! `replay_reference [START] [MEMORY]`: replays the trace on standard input from the
-//! saved text in the file START, or from reset, with the words in the file MEMORY lent
-//! to every step, or none at address 0. Either file may be `-`, for none.
+//! saved text in the file START, of either form, or from reset, with the words in the file
+//! MEMORY lent to every step, or none at address 0. Either file may be `-`, for none.
 
 use std::error::Error;
 use std::ffi::OsString;
@@ -9,7 +9,7 @@ use std::io::{self, BufReader, BufWriter, Write};
 use std::path::Path;
 use std::process::ExitCode;
 
-use reference::{LONGEST_MEMORY_TEXT, Memory, TEXT_LENGTH, fill, read_memory, replay, restore};
+use reference::{Form, LONGEST_MEMORY_TEXT, Memory, fill, read_memory, replay, restore_start};
 
 fn main() -> ExitCode {
     let arguments: Vec<OsString> = std::env::args_os().skip(1).collect();
@@ -36,8 +36,8 @@ fn failure(message: &str) -> ExitCode {
 
 /// A start that is refused is all that is told, so the memory is not looked at then.
 fn run(start: Option<&Path>, memory: Option<&Path>) -> Result<(), Box<dyn Error>> {
-    let text = start.map(|path| read(path, TEXT_LENGTH)).transpose()?;
-    let refused = text.as_deref().is_some_and(|text| restore(text).is_err());
+    let text = start.map(|path| read(path, Form::LONGEST)).transpose()?;
+    let refused = text.as_deref().is_some_and(|text| restore_start(text).is_err());
     let (base, words) = match memory {
         Some(path) if !refused => lent(path)?,
         _ => (0, Vec::new()),

@@ -22,11 +22,13 @@ pub fn no_grain(random: &mut Random) -> u64 {
     random.pick(&NO_GRAINS)
 }
 
-/// The same hart, of a G of 0, or most often with another and entries for it.
+/// The same hart, of a G of 0, or most often a coarser one.
 pub fn coarsened(random: &mut Random, hart: &Hart) -> Hart {
-    if random.below(8) < 3 {
-        return *hart;
-    }
+    if random.below(8) < 3 { *hart } else { coarse(random, hart) }
+}
+
+/// The same hart with a G of 1 or more, and entries for it.
+pub fn coarse(random: &mut Random, hart: &Hart) -> Hart {
     let mut hart = Hart { grain: 1 + random.below(COARSEST), ..*hart };
     let apart = !random.once_in(4);
     for entry in 0..16 {

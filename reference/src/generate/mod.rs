@@ -2,6 +2,7 @@
 //! wrong, the shapes of NAPOT registers, and settings that make many ranges.
 
 mod address;
+mod damage;
 mod entries;
 mod grain;
 mod interrupts;
@@ -16,6 +17,7 @@ mod text;
 mod tiles;
 
 pub use address::{address, near_range};
+pub use damage::Damage;
 pub use grain::grain;
 pub use interrupts::mixed_delegation;
 pub use map::map;
@@ -23,7 +25,7 @@ pub use memory::memory;
 pub use napot::napot_registers;
 pub use paging::{Paging, paging};
 pub use settings::{Setting, settings};
-pub use state::{damaged, finest, holdable, narrowed};
+pub use state::{damaged, finest, holdable, narrowed, textless};
 pub use step::{csr_operand, size, step};
-pub use text::text;
+pub use text::{Text, text};
 pub use tiles::tiles;

@@ -1,7 +1,7 @@
 //! States that a hart can hold, and states that it cannot.
 
 use super::entries::fill_entries;
-use super::grain::{coarsened, no_grain};
+use super::grain::{coarse, coarsened, no_grain};
 use crate::hart::{HART_WORDS, Hart, MACHINE, SUPERVISOR, USER};
 use crate::holdable::mask;
 use crate::random::Random;
@@ -14,7 +14,7 @@ pub fn holdable(random: &mut Random) -> Hart {
     coarsened(random, &hart)
 }
 
-/// A state with a G of 0. Half of these have a saved text.
+/// A state with a G of 0. Half of these have a text of the first form.
 pub fn finest(random: &mut Random) -> Hart {
     let mut hart = Hart::reset();
     hart.mode = random.pick(&[USER, SUPERVISOR, MACHINE]);
@@ -33,14 +33,25 @@ pub fn finest(random: &mut Random) -> Hart {
     hart
 }
 
-/// The same with what the saved text has no room for left out.
+/// The same with what the first form has no room for left out.
 pub fn narrowed(hart: &Hart) -> Hart {
     Hart {
-        mstatus: hart.mstatus & (status::FIXED | mask::text::MSTATUS),
-        medeleg: hart.medeleg & mask::text::MEDELEG,
+        mstatus: hart.mstatus & (status::FIXED | mask::first_form::MSTATUS),
+        medeleg: hart.medeleg & mask::first_form::MEDELEG,
         satp: 0,
         grain: 0,
         ..*hart
+    }
+}
+
+/// A state that the first form has no room for, for one reason alone.
+pub fn textless(random: &mut Random) -> Hart {
+    let hart = narrowed(&holdable(random));
+    match random.below(4) {
+        0 => Hart { mstatus: hart.mstatus | status::SUM, ..hart },
+        1 => Hart { medeleg: hart.medeleg | 1 << random.pick(&[12, 13, 15]), ..hart },
+        2 => Hart { satp: satp_value(random) | 1 << random.pick(&[0, 43, 63]), ..hart },
+        _ => coarse(random, &hart),
     }
 }
 

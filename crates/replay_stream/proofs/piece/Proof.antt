@@ -4,8 +4,8 @@ use Rattle.replay_stream.proofs.Streaming.{piece-fed}
 use Rattle.replay_stream.proofs.piece.Statement.{statement}
 use Rattle.replay_stream.proofs.piece.Tie as tie
 
-returns-2 : tie.Need-returns-2
-returns-2 c =
+returns-3 : tie.Need-returns-3
+returns-3 c =
     let f = c .before .before .before .before .before .before in
     record { piece = _; session = piece-fed _ _ _ _ (search (needs, length-take-le)) (search needs) (f .feed .ensures .0) }
 
@@ -25,5 +25,5 @@ piece-spec =
     (λ c. search needs)
     (λ c. search needs)
     (λ c κs. search needs)
-    returns-2
-    (λ c. search needs))
+    (λ c. search needs)
+    returns-3)

@@ -9,14 +9,14 @@ use reference::csr::number;
 use reference::generate::Setting;
 use reference::protection::LOCK;
 use reference::random::Random;
-use reference::{Hart, MACHINE, Map, Mode, RANGES, form, generate, mask};
+use reference::{Form, Hart, MACHINE, Map, Mode, RANGES, generate, mask};
 
 use crate::accesses::compare_access;
 use crate::compare::step_both;
 use crate::lent::Lent;
 use crate::report::{Difference, Stage};
 use crate::sizes::Sizes;
-use crate::texts::restore_both;
+use crate::texts::compare_restore;
 
 /// How many maps of a walk have 33 ranges: two for each such setting. Of the
 /// entries that are apart, 4 kinds in 48 orders; of the nests, 2 kinds in the one
@@ -61,7 +61,9 @@ pub fn walk(sizes: &Sizes) -> Result<Judged, Difference> {
     Stage::new("boundaries", sizes, cases).run(|random, case| {
         let hart = with_setting(random, &settings[case as usize % settings.len()]);
         judged.judge(&write_last(random, &hart)?)?;
-        let restored = restore_both(&form(&hart.to_words()), &Lent::random(random))?;
+        let form = random.pick(&Form::ALL);
+        let text = form.text(&hart.to_words());
+        let (_, restored) = compare_restore(form, &text, &Lent::random(random))?;
         judged.judge(&restored)?;
         compare_boundaries(random, &restored)
     })?;

@@ -1,7 +1,7 @@
 //! What a hart can hold: one word of a state changed, judged by every call.
 
 use reference::random::Random;
-use reference::{HART_WORDS, TEXT_LENGTH, form, generate};
+use reference::{Form, HART_WORDS, generate};
 
 use crate::compare::compare_step;
 use crate::lent::Lent;
@@ -9,7 +9,7 @@ use crate::queries::{compare_query, random_question};
 use crate::report::{Difference, Stage};
 use crate::sizes::Sizes;
 use crate::steps::random_step;
-use crate::texts::{compare_restore, compare_save};
+use crate::texts::{compare_readers, compare_save};
 
 /// The words of pmpcfg0 and pmpcfg2.
 const CONFIGURATION: usize = 23;
@@ -44,6 +44,9 @@ fn compare_calls(random: &mut Random, lent: &Lent) -> Result<(), String> {
     let words = random_step(random, lent);
     compare_step(lent, words)?;
     compare_query(lent, random_question(random, lent))?;
-    compare_save(&lent.hart, &vec![0x5A; TEXT_LENGTH - 1 + random.index(3)])?;
-    compare_restore(&form(&lent.hart), &Lent::random(random))
+    for form in Form::ALL {
+        compare_save(form, &lent.hart, &vec![0x5A; form.length() - 1 + random.index(3)])?;
+        compare_readers(random, &form.text(&lent.hart))?;
+    }
+    Ok(())
 }

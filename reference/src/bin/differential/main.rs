@@ -8,9 +8,10 @@
 //! every A with bits set around it, every setting listed for the boundaries of a map, every
 //! map of a few ranges over a few bytes, the bits of a page-table entry at every level by
 //! every kind of access, every bit of every word of a state and every configuration byte,
-//! every place of a text with telling bytes, every length of a short run and its answers,
-//! and every kind of word for the grain of a hart that is made. Should the product end the
-//! program, `loud` tells the case, and `only` what it was lent.
+//! every place of a text of either form with telling bytes, every two of its lines, every
+//! length of it and of a buffer, every kind of word for its form, every length of a short
+//! run and its answers, and every kind of word for the grain of a hart that is made. Should
+//! the product end the program, `loud` tells the case, and `only` what it was lent.
 //!
 //! The last line tells how many CSR steps of the walks were done, refused, or illegal
 //! for each reason of document 01. In each walk these must be exactly as many as
@@ -24,7 +25,7 @@
 //! counted: 3,074 in each walk. And for the entries that a grain makes read unlike what
 //! is stored, 737, or match other bytes, 463. And for the maps with 33 ranges that the
 //! listed settings make: 406 in each walk. Of queries, of accesses by steps, of steps by
-//! their grain and of texts saved, it tells how many were of each class; the comparison
+//! their grain and of calls on texts, it tells how many were of each class; the comparison
 //! fails where a class has too few of them. So it does of the accesses by page tables,
 //! whose ends `diagnosis.rs` judges by itself.
 
@@ -34,6 +35,7 @@ mod calls;
 mod classes;
 mod coarse;
 mod compare;
+mod converting;
 mod deciders;
 mod diagnosis;
 mod entries;
@@ -45,6 +47,7 @@ mod lent;
 mod making;
 mod napot;
 mod narrow;
+mod near_powers;
 mod orders;
 mod outcomes;
 mod paging;
@@ -54,10 +57,15 @@ mod reads;
 mod reasons;
 mod registers;
 mod report;
+mod restoring;
+mod room;
 mod runs;
+mod saving;
 mod sizes;
 mod steps;
 mod telling;
+mod text_calls;
+mod text_walks;
 mod texts;
 mod trailing;
 mod walker;
@@ -100,14 +108,17 @@ fn compare_all(sizes: &Sizes) -> Result<String, Difference> {
     let narrow = narrow::walk(sizes)?;
     let entries = entries::walk(sizes)?;
     let held = held::walk(sizes)?;
-    let spelled = texts::walk(sizes)?;
+    let walked = text_walks::walk(sizes)?;
+    let forms = text_calls::walk(sizes)?;
     let lengths = lengths::walk(sizes)?;
     let made = making::walk(sizes)?;
     let step_telling = steps::random(sizes)?;
     let (run_steps, run_telling) = runs::random(sizes)?;
     let reads = queries::random(sizes)?;
-    texts::restored(sizes)?;
-    let saves = texts::saved(sizes)?;
+    let readings = restoring::random(sizes)?;
+    let saves = saving::random(sizes)?;
+    let conversions = converting::random(sizes)?;
+    let misfits = text_calls::wrong(sizes)?;
     calls::wrong(sizes)?;
     let outcomes = paging::random(sizes)?;
     if let Some(case) = sizes.only {
@@ -117,11 +128,11 @@ fn compare_all(sizes: &Sizes) -> Result<String, Difference> {
         "CSR walks of {reasons}, interrupt walks of {walk_orders}, NAPOT walks of {trailing}, \
          grain walks of {coarse}, boundary walks of {judged}, walks over narrow maps, each of {narrow}, \
          walks over page-table entries of {entries}, \
-         {held} states with one word changed, {spelled} texts with one byte changed, \
+         {held} states with one word changed, {walked}, {forms} calls with no form, \
          {lengths} runs of any lengths, {made} harts made or not, {} random steps with {step_telling}, \
          {} runs of {run_steps} steps with {run_telling}, \
-         {} queries with {reads}, {} texts read, {saves}, {} wrong calls, \
+         {} queries with {reads}, {readings}, {saves}, {conversions}, {misfits}, {} wrong calls, \
          {} settings of page tables with {outcomes}",
-        sizes.steps, sizes.runs, sizes.queries, sizes.texts, sizes.calls, sizes.paging
+        sizes.steps, sizes.runs, sizes.queries, sizes.calls, sizes.paging
     ))
 }

@@ -6,14 +6,13 @@ use reference::{HART_WORDS, MAP_WORDS, capi, generate, make};
 use crate::calls::{Slices, judge};
 use crate::compare::map_difference;
 use crate::lent::Lent;
+use crate::near_powers::{WORDS, word};
 use crate::report::{Difference, Stage, show, state_difference};
 use crate::sizes::Sizes;
 
-/// Every word up to this is made a grain of, then those close to a power of two, and
-/// random ones.
-const SMALL: u64 = 256;
+/// Random words for a grain, after those that are listed.
 const RANDOM: u64 = 500;
-const GRAINS: u64 = SMALL + 3 * 64 + RANDOM;
+const GRAINS: u64 = WORDS + RANDOM;
 
 /// Every grain once with slices that fit, and once with others. Gives the number of
 /// calls.
@@ -28,13 +27,7 @@ pub fn walk(sizes: &Sizes) -> Result<u64, Difference> {
 }
 
 fn grain(random: &mut Random, case: u64) -> u64 {
-    match case.checked_sub(SMALL) {
-        None => case,
-        Some(place) if place < 3 * 64 => {
-            (1u64 << (place / 3)).wrapping_add(place % 3).wrapping_sub(1)
-        }
-        Some(_) => generate::grain(random),
-    }
+    if case < WORDS { word(case) } else { generate::grain(random) }
 }
 
 /// One hart made on both sides, over words that hold something else.

@@ -78,15 +78,10 @@ impl<'a> Stage<'a> {
     }
 }
 
-/// The name of each word of a state.
-fn keys() -> impl Iterator<Item = &'static str> {
-    KEYS.into_iter().chain(["satp", "grain"])
-}
-
 /// A state in the style of the saved text, whether or not it can be held.
 pub fn state_text(words: &[u64; HART_WORDS]) -> String {
     let mut text = String::new();
-    for (key, word) in keys().zip(words) {
+    for (key, word) in KEYS.iter().zip(words) {
         let _ = writeln!(text, "  {key}={word:016x}");
     }
     text
@@ -121,7 +116,7 @@ fn owner_text(owner: u64) -> String {
 /// The words of a state in which the two programs differ.
 pub fn state_difference(expected: &[u64; HART_WORDS], found: &[u64; HART_WORDS]) -> String {
     let mut text = String::new();
-    for ((key, expected), found) in keys().zip(expected).zip(found) {
+    for ((key, expected), found) in KEYS.iter().zip(expected).zip(found) {
         if expected != found {
             let _ = writeln!(text, "  {key}: reference {expected:016x}, product {found:016x}");
         }

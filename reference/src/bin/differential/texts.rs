@@ -1,45 +1,22 @@
-//! Texts read back and saved.
-
-use std::fmt::{self, Display, Formatter};
+//! One text saved, read back or converted on both sides, with all that is lent compared.
 
 use reference::random::Random;
 use reference::{
-    HART_WORDS, Hart, MAP_WORDS, Refusal, TEXT_LENGTH, capi, form, generate, restore, save,
+    Form, HART_WORDS, Hart, MAP_WORDS, Refusal, capi, convert, generate, restore, save,
 };
 
-use crate::classes::{Class, Tally};
 use crate::compare::map_difference;
-use crate::grains::finest;
 use crate::lent::Lent;
-use crate::report::{Difference, Stage, show, state_difference, state_text};
-use crate::sizes::Sizes;
+use crate::report::{show, state_difference, state_text};
 
-/// Bytes to put anywhere: the neighbours of the digits, letters in both cases,
-/// and what ends lines or texts.
-const TELLING: &[u8] = b"0189afAFgG/:@`= \t\r\n\0ms_+\x80\xB0\xE1\xFF";
-
-/// Each place of a text with each of the telling bytes. Gives the number of
-/// texts.
-pub fn walk(sizes: &Sizes) -> Result<u64, Difference> {
-    let texts = sizes.walks * (TEXT_LENGTH * TELLING.len()) as u64;
-    Stage::new("texts walked", sizes, texts).run(|random, case| {
-        let case = case as usize;
-        let mut text = form(&generate::narrowed(&generate::finest(random)).to_words());
-        text[case / TELLING.len() % TEXT_LENGTH] = TELLING[case % TELLING.len()];
-        compare_restore(&text, &other_words(random))
-    })?;
-    Ok(texts)
+/// 0 or the number of the refusal, and what the product left in its buffer.
+pub struct Written {
+    pub number: u64,
+    pub buffer: Vec<u8>,
 }
 
-/// Texts whole and damaged, read into words that hold something else.
-pub fn restored(sizes: &Sizes) -> Result<(), Difference> {
-    Stage::new("texts read", sizes, sizes.texts).run(|random, _| {
-        let text = generate::text(random);
-        compare_restore(&text, &other_words(random))
-    })
-}
-
-fn other_words(random: &mut Random) -> Lent {
+/// Words for a hart and a map to be read into: a state and a map, or any.
+pub fn other_words(random: &mut Random) -> Lent {
     if random.once_in(2) {
         return Lent::random(random);
     }
@@ -47,21 +24,35 @@ fn other_words(random: &mut Random) -> Lent {
     Lent::new(hart, std::array::from_fn::<u64, MAP_WORDS, _>(|_| random.word()))
 }
 
-pub fn compare_restore(text: &[u8], lent: &Lent) -> Result<(), String> {
-    restore_both(text, lent).map(drop)
+/// A buffer with something in it: too short for either form, or for one of them, just
+/// long enough, or longer.
+pub fn buffer(random: &mut Random) -> Vec<u8> {
+    let form = random.pick(&Form::ALL).length();
+    let length = match random.below(4) {
+        0 => random.index(Form::LONGEST + 1),
+        1 => form - 1 + random.index(3),
+        2 => form,
+        _ => form + random.index(100),
+    };
+    filled(random, length)
 }
 
-/// The same, to go on from: gives what the product leaves.
-pub fn restore_both(text: &[u8], lent: &Lent) -> Result<Lent, String> {
-    show(|| format!("text\n{}", text.escape_ascii()));
-    restore_difference(text, lent)
-        .map_err(|difference| format!("text\n{}\n{difference}", text.escape_ascii()))
+pub fn filled(random: &mut Random, length: usize) -> Vec<u8> {
+    let filling = random.word();
+    (0..length).map(|place| (filling >> (place % 57)) as u8).collect()
 }
 
-fn restore_difference(text: &[u8], lent: &Lent) -> Result<Lent, String> {
+/// Gives 0 or the number of the refusal, and what the product leaves.
+pub fn compare_restore(form: Form, text: &[u8], lent: &Lent) -> Result<(u64, Lent), String> {
+    let told = || format!("reading by {form:?} form the text\n{}", text.escape_ascii());
+    show(told);
+    restore_difference(form, text, lent).map_err(|difference| format!("{}\n{difference}", told()))
+}
+
+fn restore_difference(form: Form, text: &[u8], lent: &Lent) -> Result<(u64, Lent), String> {
     let mut found = lent.clone();
-    let call = capi::restore(text, &mut found.hart, &mut found.map);
-    let (number, expected) = match restore(text) {
+    let call = capi::restore(form.number(), text, &mut found.hart, &mut found.map);
+    let (number, expected) = match restore(form, text) {
         Ok((hart, map)) => (0, lent.left(&hart, &map)),
         Err(refusal) => (refusal.number(), lent.clone()),
     };
@@ -72,80 +63,73 @@ fn restore_difference(text: &[u8], lent: &Lent) -> Result<Lent, String> {
         let difference = state_difference(&expected.hart, &found.hart);
         return Err(format!("both give {call}; states differ\n{difference}"));
     }
-    map_difference(&expected.map, &found.map, number == 0).map_or(Ok(found), Err)
+    map_difference(&expected.map, &found.map, number == 0).map_or(Ok((number, found)), Err)
 }
 
-/// A state saved, and 0 or the number of the refusal.
-struct Saved {
-    hart: Hart,
-    number: u64,
+pub fn compare_save(
+    form: Form,
+    words: &[u64; HART_WORDS],
+    buffer: &[u8],
+) -> Result<Written, String> {
+    let told = || {
+        let length = buffer.len();
+        format!("saving in {form:?} form the state\n{}into {length} bytes", state_text(words))
+    };
+    let hart = Hart::from_words(words);
+    compare_written(
+        told,
+        buffer,
+        |buffer| save(form, &hart, buffer),
+        |buffer| capi::save(form.number(), words, buffer),
+    )
 }
 
-const CLASSES: [Class<Saved>; 3] = [
-    Class { name: "done", one_in: 20, holds: |saved| saved.number == 0 },
-    Class { name: "refused 12", one_in: 10, holds: Saved::has_no_text },
-    Class {
-        name: "by the grain alone",
-        one_in: 10,
-        holds: |saved| saved.has_no_text() && finest(&saved.hart).has_text(),
-    },
-];
-
-impl Saved {
-    fn has_no_text(&self) -> bool {
-        self.number == Refusal::NoText.number()
-    }
+pub fn compare_convert(to: Form, text: &[u8], buffer: &[u8]) -> Result<Written, String> {
+    let told = || {
+        let length = buffer.len();
+        format!("converting to {to:?} form, into {length} bytes, the text\n{}", text.escape_ascii())
+    };
+    compare_written(
+        told,
+        buffer,
+        |buffer| convert(to, text, buffer),
+        |buffer| capi::convert(to.number(), text, buffer),
+    )
 }
 
-/// How many saves there were of each class.
-pub struct Saves(Tally<Saved>);
-
-impl Display for Saves {
-    fn fmt(&self, formatter: &mut Formatter) -> fmt::Result {
-        self.0.fmt(formatter)
-    }
-}
-
-/// States saved into buffers too short, just long enough, and longer. Gives how that
-/// ended.
-pub fn saved(sizes: &Sizes) -> Result<Saves, Difference> {
-    let mut saves = Tally::new("texts saved", &CLASSES);
-    Stage::new("texts saved", sizes, sizes.texts).run(|random, _| {
-        let hart = Lent::random(random).hart;
-        let length = buffer_length(random);
-        let filling = random.word();
-        let buffer: Vec<u8> = (0..length).map(|place| (filling >> (place % 57)) as u8).collect();
-        let number = compare_save(&hart, &buffer)?;
-        saves.count(&Saved { hart: Hart::from_words(&hart), number });
-        Ok(())
-    })?;
-    saves.check("texts saved")?;
-    Ok(Saves(saves))
-}
-
-fn buffer_length(random: &mut Random) -> usize {
-    match random.below(4) {
-        0 => random.index(TEXT_LENGTH + 1),
-        1 => TEXT_LENGTH - random.index(2),
-        2 => TEXT_LENGTH,
-        _ => TEXT_LENGTH + random.index(100),
-    }
-}
-
-/// One save on both sides. Gives 0, or the number of the refusal.
-pub fn compare_save(words: &[u64; HART_WORDS], buffer: &[u8]) -> Result<u64, String> {
-    show(|| format!("saving\n{}into {} bytes", state_text(words), buffer.len()));
+fn compare_written(
+    told: impl Fn() -> String,
+    buffer: &[u8],
+    reference: impl Fn(&mut [u8]) -> Result<(), Refusal>,
+    product: impl Fn(&mut [u8]) -> u64,
+) -> Result<Written, String> {
+    show(&told);
     let (mut expected, mut found) = (buffer.to_vec(), buffer.to_vec());
-    let number = save(&Hart::from_words(words), &mut expected).map_or_else(Refusal::number, |()| 0);
-    let call = capi::save(words, &mut found);
+    let number = reference(&mut expected).map_or_else(Refusal::number, |()| 0);
+    let call = product(&mut found);
     if call == number && expected == found {
-        return Ok(number);
+        return Ok(Written { number, buffer: found });
     }
     let place = (0..buffer.len()).find(|&place| expected[place] != found[place]);
     Err(format!(
-        "state\n{}a buffer of {} bytes: reference gives {number}, product {call}; \
-         first byte that differs: {place:?}",
-        state_text(words),
-        buffer.len()
+        "{}\nreference gives {number}, product {call}; first byte that differs: {place:?}",
+        told()
     ))
+}
+
+/// Both readers and both conversions of one text, which may be in no form.
+pub fn compare_readers(random: &mut Random, text: &[u8]) -> Result<(), String> {
+    for form in Form::ALL {
+        compare_restore(form, text, &other_words(random))?;
+        let length = form.length() - 1 + random.index(3);
+        compare_convert(form, text, &filled(random, length))?;
+    }
+    Ok(())
+}
+
+/// The text in this form of a state that has one.
+pub fn whole_text(random: &mut Random, form: Form) -> Vec<u8> {
+    let hart = generate::holdable(random);
+    let hart = if hart.has_text(form) { hart } else { generate::narrowed(&hart) };
+    form.text(&hart.to_words())
 }

@@ -1,33 +1,11 @@
-//! Texts that are refused, broken records, bytes left over, and no input.
+//! Broken records, bytes left over, and no input.
 
-use reference::{Hart, form};
+use reference::Hart;
 
 use crate::vector::{Vector, records, saved};
 
 pub fn vectors() -> Vec<Vector> {
-    [texts(), broken_records(), ends()].concat()
-}
-
-fn texts() -> Vec<Vector> {
-    let whole = saved(&Hart::reset());
-    let mut words = Hart::reset().to_words();
-    words[0] = 2;
-    let replaced =
-        |from: &str, to: &str| String::from_utf8_lossy(&whole).replacen(from, to, 1).into_bytes();
-    [
-        ("text-short", whole[..1026].to_vec()),
-        ("text-long", [&whole[..], b"\n"].concat()),
-        ("text-empty", Vec::new()),
-        ("text-upper-case", replaced("a00000000", "A00000000")),
-        ("text-carriage-return", replaced("\n", "\r\n")),
-        ("text-keys-swapped", replaced("mie=0000000000000000\nmip", "mip=0000000000000000\nmie")),
-        ("text-mode-2", form(&words).to_vec()),
-        ("text-mpp-2", replaced("mstatus=0000000a00000000", "mstatus=0000000a00001000")),
-        ("text-write-without-read", replaced("pmpcfg2=00", "pmpcfg2=02")),
-    ]
-    .into_iter()
-    .map(|(name, start)| Vector::new(name, Some(start), records(&[[11, 0, 0]])))
-    .collect()
+    [broken_records(), ends()].concat()
 }
 
 /// Two good records, a broken one, and two that must not be read.

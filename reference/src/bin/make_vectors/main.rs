@@ -6,7 +6,9 @@ mod broken;
 mod interrupts;
 mod paging;
 mod protection;
+mod refused;
 mod registers;
+mod second_form;
 mod steps;
 mod traps;
 mod vector;
@@ -49,6 +51,8 @@ fn all(seed: u64) -> Vec<Vector> {
         interrupts::vectors(),
         protection::vectors(seed),
         paging::vectors(),
+        second_form::vectors(seed),
+        refused::vectors(),
         broken::vectors(),
     ]
     .concat()

@@ -10,7 +10,9 @@ use crate::vector::Vector;
 
 /// The page of the tables. All levels share it: the root has words 0 to 7, level 1
 /// words 8 to 15, level 0 the rest.
-const TABLES: u64 = 0x8000_0000;
+pub const TABLES: u64 = 0x8000_0000;
+/// satp with the root there.
+pub const ROOT: u64 = satp::SV39 << satp::MODE_SHIFT | TABLES >> 12;
 const POINTER: u64 = TABLES >> 2 | pte::V;
 const MARKED: u64 = pte::V | pte::A | pte::D;
 const ALL_RIGHTS: u64 = MARKED | pte::R | pte::W | pte::X;
@@ -24,21 +26,17 @@ fn entry(address: u64, bits: u64) -> u64 {
     address >> 2 | bits
 }
 
-fn address(numbers: [u64; 3], offset: u64) -> u64 {
+pub fn address(numbers: [u64; 3], offset: u64) -> u64 {
     numbers[0] << 30 | numbers[1] << 21 | numbers[2] << 12 | offset
 }
 
 /// All memory to entry 7, and the root.
 fn translating() -> Vec<[u64; 3]> {
-    vec![
-        [WRITE, PMPADDR0 + 7, (1 << 54) - 1],
-        [WRITE, PMPCFG0, 0x1F << 56],
-        [WRITE, SATP, satp::SV39 << satp::MODE_SHIFT | TABLES >> 12],
-    ]
+    vec![[WRITE, PMPADDR0 + 7, (1 << 54) - 1], [WRITE, PMPCFG0, 0x1F << 56], [WRITE, SATP, ROOT]]
 }
 
 /// Pages of all sizes, with all rights and marks and with some missing.
-fn tables() -> Vec<u64> {
+pub fn tables() -> Vec<u64> {
     let mut words = vec![POINTER; 16];
     words[1..5].copy_from_slice(&[
         entry(0xC000_0000, ALL_RIGHTS),

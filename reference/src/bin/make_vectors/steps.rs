@@ -1,5 +1,6 @@
 //! Numbers of the steps.
 
+pub const RESET: u64 = 0;
 pub const WRITE: u64 = 1;
 pub const SET: u64 = 2;
 pub const CLEAR: u64 = 3;

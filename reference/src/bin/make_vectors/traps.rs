@@ -88,18 +88,21 @@ fn time() -> Vector {
     Vector::of_steps("time", Some(&start), &steps)
 }
 
-/// Random steps from a random state; arguments not used are 0, as a trace
-/// demands.
+/// Random steps from a random state.
 fn any_steps(random: &mut Random) -> Vector {
     let start = generate::narrowed(&generate::finest(random));
-    let (mut hart, mut map) = (start, Map::reset());
-    let steps: Vec<[u64; 3]> = (0..1500)
+    Vector::of_steps("any-steps", Some(&start), &random_steps(random, &start, 1500))
+}
+
+/// So many steps from a state; arguments not used are 0, as a trace demands.
+pub fn random_steps(random: &mut Random, start: &Hart, count: usize) -> Vec<[u64; 3]> {
+    let (mut hart, mut map) = (*start, Map::reset());
+    (0..count)
         .map(|_| {
             let words = generate::step(random, &hart, &map);
             let next = Step::from_words(words[0], words[1], words[2]).expect("a step there is");
             step(&mut hart, &mut map, Memory::EMPTY, next);
             next.to_words()
         })
-        .collect();
-    Vector::of_steps("any-steps", Some(&start), &steps)
+        .collect()
 }

@@ -4,7 +4,7 @@ use std::fs;
 use std::io;
 use std::path::Path;
 
-use reference::{Hart, Memory, form, read_memory, replay, write_memory, write_record};
+use reference::{Form, Hart, Memory, read_memory, replay, write_memory, write_record};
 
 #[derive(Clone)]
 pub struct Vector {
@@ -52,8 +52,10 @@ impl Vector {
     }
 }
 
+/// The text of the first form, or of the second where there is none.
 pub fn saved(hart: &Hart) -> Vec<u8> {
-    form(&hart.to_words()).to_vec()
+    let form = if hart.has_text(Form::First) { Form::First } else { Form::Second };
+    form.text(&hart.to_words())
 }
 
 pub fn records(steps: &[[u64; 3]]) -> Vec<u8> {

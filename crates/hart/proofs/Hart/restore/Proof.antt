@@ -1,43 +1,64 @@
-use mathlib.Core.Path.{_≡_, refl, sym, _∙_}
+use Prim.Native.Nat.{ℕ}
+use mathlib.Core.Path.{_≡_, sym, ap, _∙_}
 use mathlib.Core.Bool.{Bool, true, false, cond, _&&_}
 use borrow.Author.Tests.{not-true, not-false}
 use Rattle.steps.specs.declared.Answer.the-variants.{Done, Refused}
 use Rattle.map.specs.declared.Map.{Map}
-use Rattle.hart.specs.Steps.{mapFor, hartWith, handedBack}
-use Rattle.hart.specs.Saved.{restored}
+use Rattle.text.specs.Text.{readText}
+use Rattle.hart.specs.Steps.{hartWith, handedBack}
+use Rattle.hart.specs.Saved.{restoredDone, restored}
 use Rattle.hart.proofs.Numbered.{numbered}
-use Rattle.hart.proofs.SavedLaws.{refused-form, judged-state}
+use Rattle.hart.proofs.SavedLaws.{read-as, text-unformed, text-judged, words-count, words-judged}
 use borrow.Author.Needs.{needs}
 use Rattle.hart.proofs.Hart.restore.Statement.{statement}
 use Rattle.hart.proofs.Hart.restore.Tie as tie
 
-returns : tie.Need-returns
-returns c =
-    let d = c .before .before in
-    let a = d .before .before .args in
-    numbered (refused-form (a .self) (a .map) (a .text .now) (d .read .ensures) (not-true _ (c .if1 .taken)))
+-- what was read of the text
+known : (d : tie.After-read) → let a = d .before .before .before .args in
+    record { ok = d .read .result; words = d .read .last .1 .1 .0 } ≡ readText (a .form) (a .text .now)
+known d = let a = d .before .before .before .args in read-as (a .form) (a .text .now) (d .read .ensures .0) (d .read .ensures .1)
 
--- what is known once the state of the text's words has been judged, with its map
-judged : (c : tie.After-has-text) (held : Bool) (m : Map) → (c .before .can-hold .result && c .has-text .result) ≡ held
-    → m ≡ mapFor (c .before .before .of-text-words .result .pmp)
-    → let a = c .before .before .before .before .before .before .before .before .args in
-    cond held (handedBack (hartWith (c .before .before .of-text-words .result)) m Done) (handedBack (a .self) (a .map) (Refused 5))
-    ≡ restored (a .self) (a .map) (a .text .now)
-judged c held m h own =
+returns : tie.Need-returns
+unfolding restored
+returns c =
+    let d = c .before in
+    let a = d .before .before .before .args in
+    numbered
+    (text-unformed (a .form) (a .text .now) (λ n. handedBack (a .self) (a .map) (Refused n)) restoredDone (known d) (not-true _ (c .if1 .taken)))
+
+counted : tie.Need-slice-aggregate-words-can-hold
+counted c =
+    let s = c .before in
+    let e = s .before in
+    let d = e .before in
+    let a = d .before .before .before .args in
+    sym (words-count (a .form) (a .text .now) (known d) (not-false _ (e .if1 .left)) (s .of-words .ensures))
+
+-- what is known once the state of the text's words has been judged
+judged : (c : tie.After-form-holds) (held : Bool) → (c .before .words-can-hold .result && c .form-holds .result) ≡ held →
+    let s = c .before .before .before in
+    let a = s .before .before .before .before .before .args in
+    cond held (restoredDone (s .of-words .result)) (handedBack (a .self) (a .map) (Refused 5)) ≡ restored (a .form) (a .self) (a .map) (a .text .now)
+unfolding restored
+judged c held h =
     let k = c .before in
-    let s = k .before in
-    let e = s .before .before in
-    let d = e .before .before in
-    let a = d .before .before .args in
-    judged-state (a .self) (a .map) m (a .text .now) held (d .read .ensures) (not-false _ (e .if1 .left)) (s .of-text-words .ensures)
-    (sym (λ j. k .can-hold .ensures j && c .has-text .ensures j) ∙ h) own
+    let s = k .before .before in
+    let e = s .before in
+    let d = e .before in
+    let a = d .before .before .before .args in
+    let o = not-false _ (e .if1 .left) in
+    text-judged (a .form) (a .text .now) (λ n. handedBack (a .self) (a .map) (Refused n)) restoredDone (known d) held o (s .of-words .ensures)
+    (words-judged (a .form) (a .text .now) (known d) o (s .of-words .ensures) (k .words-can-hold .ensures) (c .form-holds .ensures) ∙ h)
 
 returns-2 : tie.Need-returns-2
-returns-2 c =
-    numbered (judged (c .before) false (mapFor (c .before .before .before .of-text-words .result .pmp)) (not-true _ (c .if2 .taken)) refl)
+returns-2 c = numbered (judged (c .before) false (not-true _ (c .if2 .taken)))
 
 returns-3 : tie.Need-returns-3
-returns-3 c = let f = c .before .before in numbered (judged (f .before) true (c .map-for .result) (not-false _ (f .if2 .left)) (c .map-for .ensures))
+returns-3 c =
+    let f = c .before .before in
+    numbered
+    (ap (λ (m : Map). handedBack (hartWith (f .before .before .before .before .of-words .result)) m Done) (c .map-for .ensures)
+    ∙ judged (f .before) true (not-false _ (f .if2 .left)))
 
 pub restore-spec : {M : Type 1} → statement M
 restore-spec =
@@ -46,6 +67,7 @@ restore-spec =
     (λ c κs. search needs)
     returns
     (λ c κs. search needs)
+    counted
     (λ c κs. search needs)
     (λ c κs. search needs)
     returns-2

@@ -1,5 +1,6 @@
 use Rattle.trace.proofs.Writing.{put-both, put-length}
-use Rattle.trace.proofs.Endings.{state-length, ranges-length}
+use Rattle.trace.proofs.SavedTexts.{state-length}
+use Rattle.trace.proofs.Endings.{ranges-length}
 use Rattle.trace.specs.Endings.{ending}
 use Rattle.lines.specs.Lines.{bytesOf}
 use native.Mathlib.Omega.{arith}
