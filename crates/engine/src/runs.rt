@@ -3,56 +3,17 @@ use crate::Taken;
 use crate::taking::take;
 use steps::Answer;
 use steps::Decoded;
-use steps::Trap;
 ghost use mathlib.Core.Path.{_≡_};
-ghost use mathlib.Core.Bool.{true, cond};
+ghost use mathlib.Core.Bool.{true};
 ghost use Prim.Native.Nat.{_+_, _^_, _<_};
 ghost use lib.ListN.{length, set};
 ghost use lib.Seq.{sets};
-ghost use Rattle.steps.specs.Number.{causeNumber, interruptNumber, answerInterrupt, answerNumbers};
+ghost use Rattle.steps.specs.Number.{answerInterrupt, answerNumbers};
 ghost use Rattle.steps.specs.Decode.{decoded, stepsOf, nameSteps};
 ghost use Rattle.paging.specs.Memory.{memoryAt};
 ghost use Rattle.state.specs.Words.{stateOf};
 ghost use Rattle.engine.specs.Taking.{namedTaken, namedState};
 ghost use Rattle.engine.specs.Runs.{lent, afterAll, anyRemaps, answersOf, ran};
-
-fn flag_number(flag: bool) -> u64
-    ensures { λ r. ⌜ r ≡ cond flag 1 0 ⌝ }
-{
-    if flag { 1 } else { 0 }
-}
-
-// No step answers with an interrupt, so that the sum does not wrap.
-fn cause_number(trap: Trap) -> u64
-    requires { ⌜ interruptNumber trap ≡ 0 ⌝ }
-    ensures { λ r. ⌜ r ≡ causeNumber trap ⌝ }
-{
-    match trap {
-        Trap::Exception(cause) => cause,
-        Trap::Interrupt(number) => 0x8000000000000000 + number,
-    }
-}
-
-fn answer_numbers(answer: Answer) -> [u64; 4]
-    requires { ⌜ answerInterrupt answer ≡ 0 ⌝ }
-    ensures { λ r. ⌜ r ≡ answerNumbers answer ⌝ }
-{
-    match answer {
-        Answer::Done => [0, 0, 0, 0],
-        Answer::DoneValue(value) => [1, value, 0, 0],
-        Answer::DoneFlag(flag) => [2, flag_number(flag), 0, 0],
-        Answer::Granted(entry) => [3, 0, 0, entry as u64],
-        Answer::Trapped(trap, level, entry) => {
-            [
-                4,
-                cause_number(trap),
-                steps::level_number(level),
-                entry as u64,
-            ]
-        }
-        Answer::Refused(number) => [5, number, 0, 0],
-    }
-}
 
 // Stores a word where the slice has its place.
 fn put(words: &mut [u64], place: usize, word: u64)
@@ -67,7 +28,7 @@ fn put_answer(answer: Answer, answers: &mut [u64], place: usize)
     requires { ⌜ (answerInterrupt answer ≡ 0) × (place + 3 < 2 ^ 64) ⌝ }
     ensures { λ _. ⌜ now (answers .exit) ≡ sets (now (answers .entry)) place (answerNumbers answer) ⌝ }
 {
-    let numbers = answer_numbers(answer);
+    let numbers = steps::answer_words(answer);
     put(answers, place, numbers[0]);
     put(answers, place + 1, numbers[1]);
     put(answers, place + 2, numbers[2]);

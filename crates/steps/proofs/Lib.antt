@@ -1,2 +1,3 @@
 -- The laws that the proofs and the crates above cite.
 pub mod NumberLaws
+pub mod AnswerLaws
