@@ -2,7 +2,11 @@
 pub mod Buffers
 pub mod Answers
 pub mod WorkedLines
+pub mod Replies
+pub mod Reading
 pub mod Batches
+pub mod Feeding
+pub mod Parts
 pub mod SavedTexts
 pub mod TextOutput
 pub mod Endings

@@ -1,10 +1,11 @@
-// A trace in pieces: what goes on from one piece to the next, and what is written for each.
-use crate::Fed;
-use crate::Replay;
+// A trace in pieces, for a program: what goes on from one piece to the next, and what is written for each.
+use crate::Output;
+use crate::Reader;
 use crate::Session;
-use crate::batch::batch;
-use crate::ending::left_over;
+use crate::Written;
 use crate::ending::put_ending;
+use crate::feeding::handed_back;
+use crate::feeding::read;
 use crate::saved::form_by_length;
 use crate::writer::put_numbered;
 use hart::Hart;
@@ -14,20 +15,15 @@ ghost use Prim.Native.Nat.{_≤_};
 ghost use lib.ListN.{length};
 ghost use Rattle.paging.specs.Memory.{memoryAt};
 ghost use Rattle.trace.specs.Buffers.{writtenFront, writtenLength};
-ghost use Rattle.trace.specs.Sessions.{sessionFrom, resetSession, textSession, fed, pieceLines, pieceRoom, sessionEnding};
+ghost use Rattle.trace.specs.Sessions.{sessionFrom, resetSession, textSession, fedPiece, pieceLines, pieceRoom, sessionEnding};
 
 fn session_from(hart: Hart, map: Map, refusal: u64) -> Session
     ensures { λ r. ⌜ r ≡ sessionFrom hart map refusal ⌝ }
 {
-    let replay = Replay {
+    Session {
+        reader: Reader::new(),
         hart,
         map,
-        number: 0,
-        stopped: false,
-    };
-    Session {
-        replay,
-        left: 0,
         more: refusal == 0,
         refusal,
     }
@@ -60,40 +56,59 @@ impl Session {
         session_from(hart, map, refusal)
     }
 
-    // Steps through the whole records of a piece, lends each the memory, and writes their lines to the front of a buffer that has 64 bytes for each. A piece of
-    // 61,440 bytes is full; any other is the last one. A session that has ended stays as it is, and so does one whose buffer is too small.
-    pub fn feed(self, memory: &[u64], base: u64, piece: &[u8], out: &mut [u8]) -> Fed
-        ensures { λ r. ⌜ r ≡ fed (memoryAt (now (memory .entry)) base) self (now (piece .entry)) (now (out .entry)) ⌝ }
+    // Feeds a piece to the reader, lends each record the memory, and writes the lines to the front of a buffer that has 64 bytes for each record that the
+    // piece may complete: its own whole ones, and the one that was begun before it. A piece of 61,440 bytes is full; any other is the last one. A session that
+    // has ended stays as it is, and so does one whose buffer is too small.
+    pub fn feed(self, memory: &[u64], base: u64, piece: &[u8], out: &mut [u8]) -> Written
+        ensures { λ r. ⌜ r ≡ fedPiece (memoryAt (now (memory .entry)) base) self (now (piece .entry)) (now (out .entry)) ⌝ }
         ensures { λ _. ⌜ now (out .exit) ≡ writtenFront (pieceRoom (now (piece .entry))) (pieceLines (memoryAt (now (memory .entry)) base) self (now (piece .entry))) (now (out .entry)) ⌝ }
         ensures { λ r. ⌜ r .filled ≤ length (now (out .entry)) ⌝ }
     {
         if !self.more {
-            return Fed {
+            return Written {
                 session: self,
                 filled: 0,
             };
         }
         let came = piece.len();
-        if out.len() / 64 < came / 60 {
-            return Fed {
+        let room = out.len() / 64;
+        if room <= came / 60 {
+            return Written {
                 session: self,
                 filled: 0,
             };
         }
-        let start = self.replay;
-        let written = batch(memory, base, piece, out, start);
-        let replay = written.replay;
-        let left = left_over(replay.stopped, came);
-        let more = (came == 61440) & !replay.stopped;
+        let hart = self.hart;
+        let map = self.map;
+        let state = hart.state;
+        let mut words = state::to_words(state);
+        let mut answers = [0u64; 1];
+        let given = self.reader;
+        let next = read(
+            given,
+            &mut words,
+            memory,
+            base,
+            piece,
+            room,
+            Output::Lines,
+            &mut answers,
+            out,
+        );
+        let reader = next.reader;
+        let after = handed_back(words, next.remap, map);
+        let left = after.hart;
+        let left_map = after.map;
         let session = Session {
-            replay,
-            left,
-            more,
+            reader,
+            hart: left,
+            map: left_map,
+            more: (came == 61440) & !reader.stopped,
             refusal: self.refusal,
         };
-        Fed {
+        Written {
             session,
-            filled: written.filled,
+            filled: next.filled,
         }
     }
 
@@ -112,8 +127,10 @@ impl Session {
         }
         let refusal = self.refusal;
         if refusal == 0 {
-            let replay = self.replay;
-            put_ending(replay, self.left, out)
+            let reader = self.reader;
+            let hart = self.hart;
+            let map = self.map;
+            put_ending(hart, map, reader.left(), out)
         } else {
             put_numbered(b"refused ", refusal, out, 0)
         }
