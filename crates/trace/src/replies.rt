@@ -6,20 +6,35 @@ ghost use mathlib.Core.Path.{_≡_};
 ghost use mathlib.Core.List.{[], _∷_};
 ghost use Prim.Native.Nat.{_+_, _≤_};
 ghost use lib.ListN.{length};
-ghost use Rattle.steps.specs.Number.{answerInterrupt};
+ghost use Rattle.steps.specs.Number.{answerInterrupt, answerNumbers};
 ghost use Rattle.trace.specs.Buffers.{Put};
 ghost use Rattle.trace.specs.Replies.{Answered, Broken, textBy, widthOf, target, spared};
 
 // Writes four words from a place on and answers the place behind them.
-fn put_words(words: [u64; 4], answers: &mut [u64], place: usize) -> usize
+fn put_words(
+    first: u64,
+    second: u64,
+    third: u64,
+    fourth: u64,
+    answers: &mut [u64],
+    place: usize,
+) -> usize
     requires { ⌜ place + 4 ≤ length (now answers) ⌝ }
-    ensures { λ r. ⌜ Put (now (answers .entry)) place words (now (answers .exit)) r ⌝ }
+    ensures { λ r. ⌜ Put (now (answers .entry)) place (first ∷ second ∷ third ∷ fourth ∷ []) (now (answers .exit)) r ⌝ }
 {
-    answers[place] = words[0];
-    answers[place + 1] = words[1];
-    answers[place + 2] = words[2];
-    answers[place + 3] = words[3];
+    answers[place] = first;
+    answers[place + 1] = second;
+    answers[place + 2] = third;
+    answers[place + 3] = fourth;
     place + 4
+}
+
+fn put_numbers(answer: Answer, answers: &mut [u64], place: usize) -> usize
+    requires { ⌜ (place + 4 ≤ length (now answers)) × (answerInterrupt answer ≡ 0) ⌝ }
+    ensures { λ r. ⌜ Put (now (answers .entry)) place (answerNumbers answer) (now (answers .exit)) r ⌝ }
+{
+    let words = steps::answer_words(answer);
+    put_words(words[0], words[1], words[2], words[3], answers, place)
 }
 
 // The answer to a step, which is an access or another. No step answers with an interrupt.
@@ -36,7 +51,7 @@ pub(crate) fn put_answered(
     ensures { λ _. ⌜ spared output (now (answers .exit)) (now (lines .exit)) ≡ spared output (now (answers .entry)) (now (lines .entry)) ⌝ }
 {
     match output {
-        Output::Words => put_words(steps::answer_words(answer), answers, place),
+        Output::Words => put_numbers(answer, answers, place),
         Output::Lines => writer::put_answer(accessed, answer, lines, place),
     }
 }
@@ -54,7 +69,7 @@ pub(crate) fn put_broken(
     ensures { λ _. ⌜ spared output (now (answers .exit)) (now (lines .exit)) ≡ spared output (now (answers .entry)) (now (lines .entry)) ⌝ }
 {
     match output {
-        Output::Words => put_words([5, 8, number, 0], answers, place),
+        Output::Words => put_words(5, 8, number, 0, answers, place),
         Output::Lines => writer::put_broken(number, lines, place),
     }
 }

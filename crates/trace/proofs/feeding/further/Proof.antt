@@ -1,24 +1,14 @@
+use Prim.Native.Nat.{_-_}
+use borrow.Author.Tests.{lt-ltb, le-ltb}
 use borrow.Author.Needs.{needs}
 use Rattle.trace.proofs.feeding.further.Statement.{statement}
 use Rattle.trace.proofs.feeding.further.Tie as tie
-use Rattle.trace.proofs.feeding.further.Reads as reads
-use Rattle.trace.proofs.feeding.further.Lts as lts
 
--- src/feeding.rt:77:8
-sub-if1 : tie.Need-sub-if1
-sub-if1 c = search needs
-
--- src/feeding.rt:77:27
-sub-result : tie.Need-sub-result
-sub-result c = search needs
-
--- src/feeding.rt:73:1
 returns : tie.Need-returns
-returns c = ?
+returns c = let a = c .before .args in rw (lt-ltb (59 - a .kept) (a .rest) (c .if1 .taken))
 
--- src/feeding.rt:73:1
 returns-2 : tie.Need-returns-2
-returns-2 c = ?
+returns-2 c = let a = c .before .args in rw (le-ltb (59 - a .kept) (a .rest) (c .if1 .left))
 
 pub further-spec : {M : Type 1} → statement M
-further-spec = tie.close (tie.spec sub-if1 sub-result returns returns-2)
+further-spec = tie.close (tie.spec (λ c. search needs) (λ c. search needs) returns returns-2)

@@ -1,66 +1,49 @@
+use Prim.Native.Nat.{_-_}
+use mathlib.Core.Path.{_≡_, _∙_}
+use mathlib.Core.Bool.{_||_}
+use mathlib.Core.List.{_++_}
+use native.Mathlib.Omega.{arith}
+use lib.Dec.{eqb, ltb}
+use lib.ListN.{length, take, replicate}
+use lib.Seq.{sets}
+use borrow.Author.Tests.{ltb-false}
 use borrow.Author.Needs.{needs}
+use Rattle.bits.proofs.Conjunction.{neither}
 use Rattle.trace.proofs.feeding.open.Statement.{statement}
 use Rattle.trace.proofs.feeding.open.Tie as tie
-use Rattle.trace.proofs.feeding.open.Reads as reads
-use Rattle.trace.proofs.feeding.open.Lts as lts
-use Rattle.trace.proofs.feeding.join.Reads as join-reads
 
--- src/feeding.rt:43:19
-sub-missing : tie.Need-sub-missing
-sub-missing c = search needs
-
--- src/feeding.rt:45:9
 returns : tie.Need-returns
-returns c = ?
+returns c = rw (c .if1 .taken)
 
--- src/feeding.rt:52:10
-sub-join : tie.Need-sub-join
-sub-join c = search needs
-
--- src/feeding.rt:52:10
-part-join-start : tie.Need-part-join-start
-part-join-start c = search needs
-
--- src/feeding.rt:52:10
-part-join-end : tie.Need-part-join-end
-part-join-end c = search needs
-
--- src/feeding.rt:52:30
-sub-join-2 : tie.Need-sub-join-2
-sub-join-2 c = search needs
-
--- src/feeding.rt:52:30
-part-join-start-2 : tie.Need-part-join-start-2
-part-join-start-2 c = search needs
-
--- src/feeding.rt:52:30
 part-join-end-2 : tie.Need-part-join-end-2
-part-join-end-2 c = ?
+part-join-end-2 c =
+    let e = c .before .before in
+    let a = e .before .before .args in
+    let n = neither (eqb (a .count) 0) (eqb (a .room) 0 || ltb (length (a .scrap .now)) (60 - a .count)) (e .if1 .left) .1 in
+    ltb-false (length (a .scrap .now)) (60 - a .count) (neither (eqb (a .room) 0) (ltb (length (a .scrap .now)) (60 - a .count)) n .1)
 
--- src/feeding.rt:52:50
-slice-aggregate-join : tie.Need-slice-aggregate-join
-slice-aggregate-join c = search needs
-
--- src/feeding.rt:52:5
-join-requires : tie.Need-join-requires
-join-requires c κs = search needs
-
--- src/feeding.rt:38:1
 returns-2 : tie.Need-returns-2
-returns-2 c = ?
+returns-2 c =
+    let j = c .before in
+    let e = j .before .before .before .before .before in
+    let a = e .before .before .args in
+    let front : a .count - 0 ≡ a .count = omega arith in
+    let back : (60 - a .count) - 0 ≡ 60 - a .count = omega arith in
+    let text = j .join .ensures ∙ (λ i. sets (replicate 60 0) 0 (take (front i) (a .t1) ++ take (back i) (a .scrap .now))) in
+    rw (e .if1 .left) (λ i. record { text = text i; heads = 1; at = 60 - a .count; kept = 0 })
 
 pub open-spec : {M : Type 1} → statement M
 open-spec =
     tie.close
     (tie.spec
-    sub-missing
+    (λ c. search needs)
     returns
-    sub-join
-    part-join-start
-    part-join-end
-    sub-join-2
-    part-join-start-2
+    (λ c. search needs)
+    (λ c. search needs)
+    (λ c. search needs)
+    (λ c. search needs)
+    (λ c. search needs)
     part-join-end-2
-    slice-aggregate-join
-    join-requires
+    (λ c. search needs)
+    (λ c κs. search needs)
     returns-2)
