@@ -6,3 +6,5 @@ pub mod TextOutput
 pub mod Endings
 pub mod Readers
 pub mod Parts
+pub mod Replying
+pub mod Batching

@@ -1,101 +1,196 @@
+-- What is left of the records does with the replay at hand what all of them do with the first, whatever the map. Assumes nothing.
+use Prim.Native.Nat.{_+_, _-_}
+use mathlib.Core.Path.{_≡_, refl, sym, ap, _∙_}
+use mathlib.Core.Bool.{false}
+use native.Mathlib.Omega.{arith}
+use lib.ListN.{length, drop}
+use borrow.Author.Needs.{needs}
+use Rattle.map.specs.declared.Map.{Map}
+use Rattle.paging.specs.Memory.{Memory, memoryAt}
+use Rattle.state.specs.Hold.{canHold}
+use Rattle.state.specs.Words.{stateOf}
+use Rattle.trace.specs.Replies.{Answered, Broken, target, spared}
+use Rattle.trace.specs.Batches.{recordsOf, carried, carriedBy}
+use Rattle.trace.proofs.Batching.{Room, Turn, both-long, read-here, taken-plain, held-next, room-here, room-next, turn-formed, turn-broken, turn-over, stopped-still, none-still, still-put, batched}
 use Rattle.trace.proofs.batch.batch.Statement.{statement}
 use Rattle.trace.proofs.batch.batch.Tie as tie
-use Rattle.trace.proofs.batch.batch.Reads as reads
-use Rattle.trace.proofs.batch.batch.Lts as lts
-use Rattle.engine.proofs.step.Reads as step-reads
-use Rattle.scrap.proofs.read.Reads as read-reads
-use Rattle.std.proofs.num.wrapping_add_u64.Reads as wrapping-add-u64-reads
-use Rattle.steps.proofs.is_access.Reads as is-access-reads
-use Rattle.trace.proofs.replies.put_answered.Reads as put-answered-reads
-use Rattle.trace.proofs.replies.put_broken.Reads as put-broken-reads
 
 abbrev Inv-loop : tie.InvT-loop
 Inv-loop words₀ memory base bytes place count output answers₀ lines₀ left₀ held₀ remap₀ number₀ filled₀ at₀ words answers lines left held remap number filled at =
-    ?
+    let m = memoryAt memory base in
+    let before = target output answers₀ lines₀ in
+    let texts = recordsOf left₀ (drop at₀ bytes) in
+    Room m output bytes before texts filled₀ (target output answers lines) left filled at
+    × (spared output answers lines ≡ spared output answers₀ lines₀)
+    × (held ≡ canHold (stateOf words))
+    × ((map : Map) → Turn m output bytes before texts filled₀ (carried (stateOf words₀) remap₀ map number₀ false) (target output answers lines) left
+    (carried (stateOf words) remap map number false) filled at)
 
 abbrev μ-loop : tie.MeasureT-loop
-μ-loop words₀ memory base bytes place count output answers₀ lines₀ left₀ held₀ remap₀ number₀ filled₀ at₀ words answers lines left held remap number filled at =
-    ?
+μ-loop words₀ memory base bytes place count output answers₀ lines₀ left₀ held₀ remap₀ number₀ filled₀ at₀ words answers lines left held remap number filled at = left
 
--- src/batch.rt:37:9
+-- where the call began
+abbrev begun : tie.Else1 Inv-loop μ-loop → tie.Start Inv-loop μ-loop
+begun e = e .before .before .before .before .before
+
+-- the memory that was lent
+abbrev lentBy : tie.Else1 Inv-loop μ-loop → Memory
+lentBy e = memoryAt (begun e .args .memory .now) (begun e .args .base)
+
 returns : tie.Need-returns Inv-loop μ-loop
-returns c = ?
+returns c =
+    let s = c .before .before .before .before .before in
+    let a = s .args in
+    let m = memoryAt (a .memory .now) (a .base) in
+    let buffer = target (a .output) (a .answers .now) (a .lines .now) in
+    let texts = recordsOf (a .count) (drop (a .place) (a .bytes .now)) in (
+      (λ (map : Map).
+        let r = carriedBy (a .start) (a .words .now) map in
+        let still = stopped-still m r (c .if1 .taken) texts in
+        record { replay = still .0; put = still-put m (a .output) r texts buffer (a .start .filled) still }),
+      (s .pre .1 .1, refl),
+    )
 
--- src/batch.rt:45:5
 loop-holds : tie.Need-loop-holds Inv-loop μ-loop
-loop-holds c = ?
+loop-holds c =
+    let s = begun c in (
+      record { within = s .pre .0; room = s .pre .1 .0; same = refl },
+      refl,
+      s .pre .1 .1,
+      λ (map : Map). record { replay = refl; put = refl; size = refl },
+    )
 
--- src/batch.rt:46:9
-sub-left : tie.Need-sub-left Inv-loop μ-loop
-sub-left c = ?
-
--- src/batch.rt:47:37
-read-requires : tie.Need-read-requires Inv-loop μ-loop
-read-requires c κs = ?
-
--- src/batch.rt:47:29
-enum-known-step : tie.Need-enum-known-step Inv-loop μ-loop
-enum-known-step c = ?
-
--- src/batch.rt:48:58
-enum-told : tie.Need-enum-told Inv-loop μ-loop
-enum-told c = ?
-
--- src/batch.rt:48:13
 put-broken-requires : tie.Need-put-broken-requires Inv-loop μ-loop
-put-broken-requires c κs = ?
+put-broken-requires c κs =
+    let i = c .before .before .before .before .before in
+    let e = i .before .before in
+    let a = begun e .args in
+    room-here (lentBy e) (a .output) (a .bytes .now) (target (a .output) (a .answers .now) (a .lines .now)) (recordsOf (a .count) (drop (a .place) (a .bytes .now))) (a .start .filled)
+    (i .before .loop .inv .0) (i .loop-test .taken)
 
--- src/batch.rt:49:13
+-- after a broken record
+module _ (p : tie.After-put-broken Inv-loop μ-loop) where
+  abbrev at-read : tie.After-read Inv-loop μ-loop
+  at-read = p .before .before .before .before .before
+
+  abbrev in-broken : tie.In-loop Inv-loop μ-loop
+  in-broken = at-read .before
+
+  broken-next : let o = in-broken .before .loop in let e = in-broken .before .before in let a = begun e .args in
+      Room (lentBy e) (a .output) (a .bytes .now) (target (a .output) (a .answers .now) (a .lines .now)) (recordsOf (a .count) (drop (a .place) (a .bytes .now))) (a .start .filled)
+      (target (a .output) (p .put-broken .last .1 .1 .0) (p .put-broken .last .1 .1 .1 .0)) (o .left - 1) (p .put-broken .result) (o .at + 60)
+  broken-next =
+      let o = in-broken .before .loop in
+      let e = in-broken .before .before in
+      let a = begun e .args in
+      room-next (lentBy e) (a .output) (a .bytes .now) (target (a .output) (a .answers .now) (a .lines .now)) (recordsOf (a .count) (drop (a .place) (a .bytes .now))) (a .start .filled)
+      (o .inv .0) (in-broken .loop-test .taken) (Broken (o .number)) (p .put-broken .ensures .0)
+
+  broken-spared : let a = begun (in-broken .before .before) .args in
+      spared (a .output) (p .put-broken .last .1 .1 .0) (p .put-broken .last .1 .1 .1 .0) ≡ spared (a .output) (a .answers .now) (a .lines .now)
+  broken-spared = p .put-broken .ensures .1 ∙ in-broken .before .loop .inv .1
+
+  broken-longs : let a = begun (in-broken .before .before) .args in
+      (length (p .put-broken .last .1 .1 .0) ≡ length (a .answers .now)) × (length (p .put-broken .last .1 .1 .1 .0) ≡ length (a .lines .now))
+  broken-longs =
+      let a = begun (in-broken .before .before) .args in
+      both-long (a .output) (p .put-broken .last .1 .1 .0) (p .put-broken .last .1 .1 .1 .0) (a .answers .now) (a .lines .now) (broken-next .same) broken-spared
+
 same-length : tie.Need-same-length Inv-loop μ-loop
-same-length c = ?
+same-length c = broken-longs (c .before .before .before .before) .0
 
--- src/batch.rt:49:13
 same-length-2 : tie.Need-same-length-2 Inv-loop μ-loop
-same-length-2 c = ?
+same-length-2 c = broken-longs (c .before .before .before .before) .1
 
--- src/batch.rt:49:13
 returns-2 : tie.Need-returns-2 Inv-loop μ-loop
-returns-2 c = ?
+returns-2 c =
+    let p = c .before .before .before .before in
+    let i = in-broken p in
+    let o = i .before .loop in
+    let e = i .before .before in
+    let a = begun e .args in
+    let m = lentBy e in
+    let texts = recordsOf (a .count) (drop (a .place) (a .bytes .now)) in
+    let buffer = target (a .output) (a .answers .now) (a .lines .now) in
+    let none = read-here (a .bytes .now) (o .at) (at-read p .read .ensures) ∙ p .before .before .before .enum-told .given .1 in (
+      (λ (map : Map).
+        let turn = turn-broken m (a .output) (a .bytes .now) buffer texts (a .start .filled) (stateOf (o .words)) (o .remap) map (o .number) (o .inv .3 map)
+        (i .loop-test .taken) none (p .put-broken .ensures .0) in
+        let over = turn-over m (a .output) (a .bytes .now) buffer texts (a .start .filled) turn (stopped-still m _ refl _) in
+        batched m (a .output) texts map (a .start) (a .words .now) buffer _ (o .words) _ (e .if1 .left) over),
+      (o .inv .2, broken-spared p),
+    )
 
--- src/batch.rt:57:13
-step-requires : tie.Need-step-requires Inv-loop μ-loop
-step-requires c κs = ?
-
--- src/batch.rt:59:13
-is-access-requires : tie.Need-is-access-requires Inv-loop μ-loop
-is-access-requires c κs = ?
-
--- src/batch.rt:60:9
 put-answered-requires : tie.Need-put-answered-requires Inv-loop μ-loop
-put-answered-requires c κs = ?
+put-answered-requires c κs =
+    let g = c .before .before .before in
+    let t = g .before .before in
+    let i = t .before .before .before .before in
+    let o = i .before .loop in
+    let e = i .before .before in
+    let a = begun e .args in
+    let step = t .before .step .given .0 .0 in (
+      room-here (lentBy e) (a .output) (a .bytes .now) (target (a .output) (a .answers .now) (a .lines .now)) (recordsOf (a .count) (drop (a .place) (a .bytes .now))) (a .start .filled)
+          (o .inv .0) (i .loop-test .taken),
+      taken-plain (o .held) (stateOf (o .words)) (lentBy e) step (g .step2 .ensures .0),
+    )
 
--- src/batch.rt:63:9
-wrapping-add-u64-requires : tie.Need-wrapping-add-u64-requires Inv-loop μ-loop
-wrapping-add-u64-requires c κs = ?
-
--- src/batch.rt:64:9
 add-at : tie.Need-add-at Inv-loop μ-loop
-add-at c = ?
+add-at c =
+    let i = c .before .before .before .before .before .before .before .before .before .before .before .before .before .before .before .before in
+    search (needs, i .before .loop .inv .0 .within, i .loop-test .taken)
 
--- src/batch.rt:45:5
-loop-less : tie.Need-loop-less Inv-loop μ-loop
-loop-less c = ?
-
--- src/batch.rt:45:5
 loop-again : tie.Need-loop-again Inv-loop μ-loop
-loop-again c = ?
+loop-again c =
+    let p = c .before .before .before .before .before .before in
+    let q = p .before .before .before in
+    let g = q .before in
+    let f = g .before .before .before in
+    let r = f .before .before in
+    let i = r .before in
+    let o = i .before .loop in
+    let e = i .before .before in
+    let a = begun e .args in
+    let m = lentBy e in
+    let texts = recordsOf (a .count) (drop (a .place) (a .bytes .now)) in
+    let buffer = target (a .output) (a .answers .now) (a .lines .now) in
+    let step = f .step .given .0 .0 in
+    let named = read-here (a .bytes .now) (o .at) (r .read .ensures) ∙ f .step .given .1 in (
+      room-next m (a .output) (a .bytes .now) buffer texts (a .start .filled) (o .inv .0) (i .loop-test .taken) (Answered (g .step2 .result .answer) (q .is-access .result)) (p .put-answered .ensures .0),
+      p .put-answered .ensures .1 ∙ o .inv .1,
+      held-next m (stateOf (o .words)) step (o .inv .2) (g .step2 .ensures .0) (g .step2 .ensures .1),
+      λ (map : Map).
+        turn-formed m (a .output) (a .bytes .now) buffer texts (a .start .filled) (stateOf (o .words)) (o .remap) map (o .number) (o .inv .3 map) (i .loop-test .taken) step
+            (o .inv .2) (g .step2 .ensures .0) (g .step2 .ensures .1) named (c .wrapping-add-u64 .ensures) (q .is-access .ensures) (p .put-answered .ensures .0),
+    )
 
--- src/batch.rt:17:1
+-- both buffers are as long as they were
+longs : (c : tie.After-loop Inv-loop μ-loop) → let o = c .before .loop in let a = begun (c .before .before) .args in
+    (length (o .answers) ≡ length (a .answers .now)) × (length (o .lines) ≡ length (a .lines .now))
+longs c =
+    let o = c .before .loop in
+    let a = begun (c .before .before) .args in
+    both-long (a .output) (o .answers) (o .lines) (a .answers .now) (a .lines .now) (o .inv .0 .same) (o .inv .1)
+
 same-length-3 : tie.Need-same-length-3 Inv-loop μ-loop
-same-length-3 c = ?
+same-length-3 c = longs c .0
 
--- src/batch.rt:17:1
 same-length-4 : tie.Need-same-length-4 Inv-loop μ-loop
-same-length-4 c = ?
+same-length-4 c = longs c .1
 
--- src/batch.rt:17:1
 returns-3 : tie.Need-returns-3 Inv-loop μ-loop
-returns-3 c = ?
+returns-3 c =
+    let o = c .before .loop in
+    let e = c .before .before in
+    let a = begun e .args in
+    let m = lentBy e in
+    let texts = recordsOf (a .count) (drop (a .place) (a .bytes .now)) in
+    let buffer = target (a .output) (a .answers .now) (a .lines .now) in (
+      (λ (map : Map).
+        let over = turn-over m (a .output) (a .bytes .now) buffer texts (a .start .filled) (o .inv .3 map) (none-still m (o .left) _ (drop (o .at) (a .bytes .now)) (c .loop-test .left)) in
+        batched m (a .output) texts map (a .start) (a .words .now) buffer _ (o .words) _ (e .if1 .left) over),
+      (o .inv .2, o .inv .1),
+    )
 
 pub batch-spec : {M : Type 1} → statement M
 batch-spec =
@@ -105,20 +200,20 @@ batch-spec =
     μ-loop
     returns
     loop-holds
-    sub-left
-    read-requires
-    enum-known-step
-    enum-told
+    (λ c. search needs)
+    (λ c κs. search needs)
+    (λ c. search needs)
+    (λ c. search needs)
     put-broken-requires
     same-length
     same-length-2
     returns-2
-    step-requires
-    is-access-requires
+    (λ c κs. search needs)
+    (λ c κs. search needs)
     put-answered-requires
-    wrapping-add-u64-requires
+    (λ c κs. search needs)
     add-at
-    loop-less
+    (λ c. search needs)
     loop-again
     same-length-3
     same-length-4
