@@ -5,3 +5,7 @@ pub mod SavedTexts
 pub mod TextOutput
 pub mod Endings
 pub mod Readers
+pub mod Replying
+pub mod Counting
+pub mod SessionLaws
+pub mod Wholeness
