@@ -1,51 +1,34 @@
+use Rattle.lines.specs.Lines.{bytesOf}
 use borrow.Author.Needs.{needs}
+use Rattle.trace.proofs.SessionLaws.{finish-early, finish-small, finish-done, finish-refused}
 use Rattle.trace.proofs.Session.finish.Statement.{statement}
 use Rattle.trace.proofs.Session.finish.Tie as tie
-use Rattle.trace.proofs.Session.finish.Reads as reads
-use Rattle.trace.proofs.Session.finish.Lts as lts
-use Rattle.trace.proofs.Reader.left.Reads as left-reads
-use Rattle.trace.proofs.ending.put_ending.Reads as put-ending-reads
-use Rattle.trace.proofs.writer.put_numbered.Reads as put-numbered-reads
 
--- src/sessions.rt:123:13
 returns : tie.Need-returns
-returns c = ?
+returns c = let a = c .before .before .args in finish-early (a .self) (a .out .now) (c .if1 .taken)
 
--- src/sessions.rt:126:13
 returns-2 : tie.Need-returns-2
-returns-2 c = ?
+returns-2 c = let a = c .before .before .before .args in finish-small (a .self) (a .out .now) (c .if2 .taken)
 
--- src/sessions.rt:133:35
-left-requires : tie.Need-left-requires
-left-requires c κs = search needs
-
--- src/sessions.rt:133:13
-put-ending-requires : tie.Need-put-ending-requires
-put-ending-requires c κs = search needs
-
--- src/sessions.rt:135:26
-slice-aggregate-put-numbered : tie.Need-slice-aggregate-put-numbered
-slice-aggregate-put-numbered c = search needs
-
--- src/sessions.rt:135:13
-put-numbered-requires : tie.Need-put-numbered-requires
-put-numbered-requires c κs = search needs
-
--- src/sessions.rt:117:5
-same-length : tie.Need-same-length
-same-length c = search needs
-
--- src/sessions.rt:117:5
 returns-3 : tie.Need-returns-3
-returns-3 c = ?
+returns-3 c =
+    let p = c .before .before in
+    let l = p .before .before in
+    let t = l .before .before .before .before in
+    let e = t .before in
+    let a = e .before .before .before .args in
+    finish-done (a .self) (a .out .now) (p .put-ending .last .1 .1 .1 .0) (p .put-ending .result) (e .before .if1 .left) (e .if2 .left) (t .if3 .taken)
+    (l .left .ensures) (p .put-ending .ensures)
 
--- src/sessions.rt:117:5
-same-length-2 : tie.Need-same-length-2
-same-length-2 c = search needs
-
--- src/sessions.rt:117:5
 returns-4 : tie.Need-returns-4
-returns-4 c = ?
+unfolding bytesOf
+returns-4 c =
+    let p = c .before .before in
+    let t = p .before .before .before in
+    let e = t .before in
+    let a = e .before .before .before .args in
+    finish-refused (a .self) (a .out .now) (p .put-numbered .last .1 .1 .0) (p .put-numbered .result) (e .before .if1 .left) (e .if2 .left) (t .if3 .left)
+    (p .put-numbered .ensures)
 
 pub finish-spec : {M : Type 1} → statement M
 finish-spec =
@@ -53,11 +36,11 @@ finish-spec =
     (tie.spec
     returns
     returns-2
-    left-requires
-    put-ending-requires
-    slice-aggregate-put-numbered
-    put-numbered-requires
-    same-length
+    (λ c κs. search needs)
+    (λ c κs. search needs)
+    (λ c. search needs)
+    (λ c κs. search needs)
+    (λ c. search needs)
     returns-3
-    same-length-2
+    (λ c. search needs)
     returns-4)
