@@ -12,20 +12,17 @@ use Rattle.bits.proofs.FoldLaws.{fold-nil, fold-cons, fold-append}
 use Rattle.lines.specs.Lines.{bytesOf}
 use Rattle.paging.specs.Memory.{Memory}
 use Rattle.state.specs.Words.{stateOf}
-use Rattle.map.specs.declared.Map.{Map}
-use Rattle.hart.specs.declared.Hart.{Hart}
 use Rattle.hart.specs.declared.Mapped.{Mapped}
 use Rattle.hart.specs.Steps.{hartWith}
 use Rattle.trace.specs.declared.Output.the-variants.{Lines}
 use Rattle.trace.specs.declared.Progress.{Progress}
-use Rattle.trace.specs.declared.Reader.{Reader}
 use Rattle.trace.specs.declared.Session.{Session}
 use Rattle.trace.specs.declared.Written.{Written}
 use Rattle.trace.specs.Buffers.{Put, writtenFront, writtenLength}
 use Rattle.trace.specs.Answers.{refusedLine}
 use Rattle.trace.specs.Replies.{Reply, replyLine, written}
 use Rattle.trace.specs.Reading.{Reading, afterBytes, repliesTo}
-use Rattle.trace.specs.Feeding.{readingOf, readerOf, leftCount, answerable, afterFeed, feedReplies, FedBy}
+use Rattle.trace.specs.Feeding.{readingOf, readerOf, leftCount, answerable, afterFeed, FedBy}
 use Rattle.trace.specs.Parts.{remade}
 use Rattle.trace.specs.Endings.{ending}
 use Rattle.trace.specs.Sessions.{readingIn, continued, fullPiece, afterPiece, pieceLines, pieceRoom, fedPiece, sessionEnding, afterPieces}

@@ -20,7 +20,7 @@ use Rattle.hart.specs.Steps.{resetMapped, handedBack}
 use Rattle.hart.specs.Saved.{readAnew}
 use Rattle.trace.specs.declared.Session.{Session}
 use Rattle.trace.specs.Answers.{refusedLine}
-use Rattle.trace.specs.Replies.{Reply, replyLine, written}
+use Rattle.trace.specs.Replies.{replyLine, written}
 use Rattle.trace.specs.Reading.{Reading, reading, afterRecord, recordReplies, afterByte, byteReplies, afterBytes, repliesTo}
 use Rattle.trace.specs.Feeding.{leftCount}
 use Rattle.trace.specs.Endings.{ending}

@@ -1,6 +1,5 @@
 use borrow.Author.Needs.{needs}
 use borrow.Author.Tests.{not-true, not-false}
-use native.Mathlib.Omega.{arith}
 use Rattle.paging.specs.Memory.{memoryAt}
 use Rattle.trace.proofs.SessionLaws.{feed-ended, feed-small, feed-done}
 use Rattle.trace.proofs.Session.feed.Statement.{statement}

@@ -1,8 +1,7 @@
+use lib.Dec.{eqb}
 use borrow.Author.Needs.{needs}
-use Rattle.trace.specs.declared.Session.{Session}
 use Rattle.trace.proofs.sessions.session_from.Statement.{statement}
 use Rattle.trace.proofs.sessions.session_from.Tie as tie
-use lib.Dec.{eqb}
 
 returns : tie.Need-returns
 returns c =
