@@ -22,8 +22,8 @@ returns-3 c =
     let w = r .before .before .before .before .before in
     let e = w .before .before .before .before in
     let a = e .before .before .before .before .before .before .args in
-    feed-done (memoryAt (a .memory .now) (a .base)) (a .self) (a .piece .now) (a .out .now) (not-false _ (e .before .if1 .left)) (e .if2 .left)
-    (w .to-words .ensures .1) (r .read .ensures .0 (a .self .map)) (b .handed-back .ensures)
+    feed-done (memoryAt (a .memory .now) (a .base)) (a .self) (a .piece .now) (a .out .now) {after = r .read .last .1 .1 .1 .1 .1 .1 .1 .1 .0}
+    (not-false _ (e .before .if1 .left)) (e .if2 .left) (w .to-words .ensures .1) (r .read .ensures .0 (a .self .map)) (b .handed-back .ensures)
 
 pub feed-spec : {M : Type 1} → statement M
 feed-spec =
