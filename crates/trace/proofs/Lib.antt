@@ -8,3 +8,6 @@ pub mod Readers
 pub mod Parts
 pub mod Replying
 pub mod Batching
+pub mod Counting
+pub mod SessionLaws
+pub mod Wholeness

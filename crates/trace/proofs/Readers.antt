@@ -19,7 +19,7 @@ use Rattle.trace.specs.Feeding.{leftOf, readingOf, readerOf}
 -- a text at the front of zeros
 pub front-sets : (n : ℕ) (xs : List ℕ) → length xs ≤ n → take (length xs) (sets (replicate n 0) 0 xs) ≡ xs
 front-sets n xs h =
-    ap (take (length xs)) (sets-eq xs (replicate n 0) 0 (omega (arith, length-replicate n 0))) ∙ take-at xs (drop (0 + length xs) (replicate n 0)) (length xs) refl
+    ap (take (length xs)) (sets-eq xs (replicate n 0) 0 (omega (arith, length-replicate {A = ℕ} n 0))) ∙ take-at xs (drop (0 + length xs) (replicate n 0)) (length xs) refl
 
 pub record Kept (x : Reading) : Type 0 where
   pub short : length (x .left) ≤ 59

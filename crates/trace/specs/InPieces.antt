@@ -61,7 +61,7 @@ pub record InPieces (m : Memory) : Type 0 where
   pub refused : (start : Session) (pieces : List (List ℕ)) → start .more ≡ false → (start .refusal ≡ 0 → ⊥)
       → allWritten m start pieces ≡ refusedLine (start .refusal)
   -- a piece leaves what its bytes leave
-  pub read : (s : Session) (piece : List ℕ) → length (s .reader .carried) ≡ 59 → s .more ≡ true → readingIn (afterPiece m s piece) ≡ afterBytes m (readingIn s) piece
+  pub read : (s : Session) (piece : List ℕ) → s .more ≡ true → readingIn (afterPiece m s piece) ≡ afterBytes m (readingIn s) piece
   -- after a broken record no more is read
   pub broken : (s : Session) (piece : List ℕ) → s .more ≡ true → afterPiece m s piece .reader .stopped ≡ true → afterPiece m s piece .more ≡ false
   -- a full piece without one goes on

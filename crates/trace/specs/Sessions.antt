@@ -1,6 +1,6 @@
 -- A replay whose trace comes in pieces: what is kept from piece to piece, the lines that each piece gives out, and what is written at the end.
 use Prim.Native.Nat.{ℕ, _+_, _*_, _/_}
-use mathlib.Core.Bool.{false, cond, not, _&&_}
+use mathlib.Core.Bool.{cond, not, _&&_}
 use mathlib.Core.List.{List, [], _++_}
 use lib.Dec.{eqb, ltb}
 use lib.ListN.{length}
