@@ -5,9 +5,11 @@ pub mod SavedTexts
 pub mod TextOutput
 pub mod Endings
 pub mod Readers
+pub mod Bytes
 pub mod Parts
 pub mod Replying
 pub mod Batching
+pub mod Feeds
 pub mod Counting
 pub mod SessionLaws
 pub mod Wholeness
