@@ -10,6 +10,7 @@ pub mod Parts
 pub mod Replying
 pub mod Batching
 pub mod Feeds
+pub mod FeedLaws
 pub mod Counting
 pub mod SessionLaws
 pub mod Wholeness
