@@ -1,4 +1,4 @@
--- How many replies bytes get, and how long their lines are. Assumes nothing.
+-- How many replies bytes get, and how much room their lines take. Assumes nothing.
 use Prim.Native.Nat.{ℕ, _+_, _*_, _/_, _≤_}
 use mathlib.Core.Path.{_≡_, refl}
 use mathlib.Core.Bool.{Bool, true, false, cond}
@@ -10,26 +10,16 @@ use borrow.Author.Tests.{ltb-false}
 use Rattle.bits.specs.Fold.{fold, outputs}
 use Rattle.paging.specs.Memory.{Memory}
 use Rattle.records.specs.Records.{readStep}
-use Rattle.trace.specs.Replies.{Reply, Answered, Broken, replyLine, written}
+use Rattle.trace.specs.declared.Output.the-variants.{Lines}
+use Rattle.trace.specs.Replies.{replyLine, written}
 use Rattle.trace.specs.Reading.{Replay, Reading, reading, replyTo, afterRecord, recordReplies, afterByte, byteReplies, afterBytes, repliesTo}
 use Rattle.trace.proofs.Readers.{Kept}
-use Rattle.trace.proofs.Writing.{answer-length, broken-length}
-
--- ---- a line for each reply
-
-line-length : (reply : Reply) → length (replyLine reply) ≤ 64
-line-length (Answered answer accessed) = answer-length accessed answer
-line-length (Broken number) = broken-length number
-
-pub lines-length : (replies : List Reply) → length (written replyLine replies) ≤ 64 * length replies
-unfolding written
-lines-length [] = omega arith
-lines-length (reply ∷ replies) = omega (arith, length-append (replyLine reply) (written replyLine replies), line-length reply, lines-length replies)
+use Rattle.trace.proofs.Replying.{written-length}
 
 -- ---- a reply for every 60 bytes
 
 module _ (m : Memory) where
-  record-count : (r : Replay) (text : List ℕ) → length (recordReplies m r text) ≤ 1
+  pub record-count : (r : Replay) (text : List ℕ) → length (recordReplies m r text) ≤ 1
   unfolding recordReplies
   record-count r text = go (r .stopped)
     where
@@ -62,4 +52,4 @@ module _ (m : Memory) where
 
   -- one record may be begun before the bytes
   pub lines-room : (x : Reading) (bytes : List ℕ) → Kept x → length (written replyLine (repliesTo m x bytes)) ≤ 64 * (length bytes / 60 + 1)
-  lines-room x bytes k = omega (arith, lines-length (repliesTo m x bytes), replies-count x bytes, k .short)
+  lines-room x bytes k = omega (arith, written-length Lines (repliesTo m x bytes), replies-count x bytes, k .short)

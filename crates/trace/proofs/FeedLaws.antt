@@ -1,5 +1,5 @@
 -- A feed: what its parts leave, and what they write, is what its bytes do. Assumes nothing.
-use Prim.Native.Nat.{ℕ, _+_, _-_, _*_, _≤_, min}
+use Prim.Native.Nat.{ℕ, zero, suc, _+_, _-_, _*_, _≤_, min}
 use mathlib.Core.Path.{_≡_, refl, sym, ap, subst, _∙_}
 use mathlib.Core.Bool.{Bool, true, false, cond, _||_}
 use native.Mathlib.Nat.{zero-add}
@@ -16,21 +16,23 @@ use Rattle.state.specs.Words.{stateOf}
 use Rattle.map.specs.declared.Map.{Map}
 use Rattle.hart.specs.Steps.{mapFor, hartWith}
 use Rattle.trace.specs.declared.Output.{Output}
+use Rattle.trace.specs.declared.Output.the-variants.{Words, Lines}
 use Rattle.trace.specs.declared.Reader.{Reader}
 use Rattle.trace.specs.declared.Cursor.{Cursor}
 use Rattle.trace.specs.declared.Opening.{Opening}
 use Rattle.trace.specs.declared.Progress.{Progress}
 use Rattle.trace.specs.Buffers.{Put}
-use Rattle.trace.specs.Replies.{Reply, written, textBy}
-use Rattle.trace.specs.Reading.{Replay, Reading, reading, recordReplies}
+use Rattle.trace.specs.Replies.{Reply, written, textBy, widthOf}
+use Rattle.trace.specs.Reading.{Replay, Reading, reading, afterRecord, recordReplies}
 use Rattle.trace.specs.Feeding.{leftOf, readingOf, readerOf, afterFeed, feedReplies, takenBy, FedBy}
 use Rattle.trace.specs.Batches.{recordsOf, afterRecords, recordsReplies, carriedBy, Batched}
 use Rattle.trace.specs.Parts.{unopened, openingOf, wholesIn, furtherIn, carrying, progressed, closed}
 use Rattle.trace.proofs.Readers.{front-sets}
 use Rattle.trace.proofs.Bytes.{ending}
 use Rattle.trace.proofs.Batching.{stopped-still}
-use Rattle.trace.proofs.Writing.{put-both}
-use Rattle.trace.proofs.Replying.{written-append}
+use Rattle.trace.proofs.Counting.{record-count}
+use Rattle.trace.proofs.Writing.{put-both, put-length}
+use Rattle.trace.proofs.Replying.{written-append, written-length}
 use Rattle.trace.proofs.Feeds.{Parted, stopped-parts, unopened-parts, opened-parts}
 
 -- ---- the numbers of an opening
@@ -57,6 +59,40 @@ module _ (carried : List ℕ) (count room : ℕ) (scrap : List ℕ) (short : cou
             at = ltb-false (length scrap) (60 - count) (q .1);
             kept = omega arith;
           }
+
+-- ---- room for the whole records
+
+records-count : (m : Memory) (n : ℕ) (r : Replay) (bytes : List ℕ) → length (recordsReplies m r (recordsOf n bytes)) ≤ n
+unfolding recordsOf fold outputs
+records-count m zero r bytes = omega arith
+records-count m (suc n) r bytes =
+    let text = take 60 bytes in
+    let after = afterRecord m r text in
+    omega (
+      arith,
+      length-append (recordReplies m r text) (recordsReplies m after (recordsOf n (drop 60 bytes))),
+      record-count m r text,
+      records-count m n after (drop 60 bytes),
+    )
+
+most-filled : (o : Output) {filled l k n : ℕ} → filled ≡ 0 + l → l ≤ widthOf o * k → k ≤ n → filled ≤ widthOf o * n
+most-filled Words e h c = omega arith
+most-filled Lines e h c = omega arith
+
+-- what the first batch has filled
+pub batch-filled : (m : Memory) (o : Output) (n : ℕ) (bytes : List ℕ) (map : Map) (start : Cursor) (before buffer : List ℕ) (end : Cursor) (words after : List ℕ)
+    → start .filled ≡ 0 → Batched m o (recordsOf n bytes) map start before buffer end words after
+    → (end .filled ≤ widthOf o * n) × (length after ≡ length buffer)
+batch-filled m o n bytes map start before buffer end words after z b =
+    let replies = recordsReplies m (carriedBy start before map) (recordsOf n bytes) in (
+      most-filled o (b .put .behind ∙ ap (λ (i : ℕ). i + length (written (textBy o) replies)) z) (written-length o replies) (records-count m n (carriedBy start before map) bytes),
+      put-length (b .put),
+    )
+
+pub room-left : (o : Output) {filled heads n room size : ℕ} → filled ≤ widthOf o * heads → heads ≤ room → n ≤ room - heads → widthOf o * room ≤ size
+    → filled + widthOf o * n ≤ size
+room-left Words f h k l = omega arith
+room-left Lines f h k l = omega arith
 
 -- ---- what is left
 

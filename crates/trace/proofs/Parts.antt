@@ -22,6 +22,15 @@ further-fits rest kept h = go (ltb (59 - kept) rest) refl
     go true e = omega arith
     go false e = omega (arith, ltb-false (59 - kept) rest e)
 
+pub wholes-fit : (room rest kept : ℕ) → (wholesIn room rest kept ≤ room) × (60 * wholesIn room rest kept ≤ rest)
+wholes-fit room rest kept = go (eqb kept 0) (ltb (rest / 60) room) refl
+  where
+    go : (a b : Bool) → ltb (rest / 60) room ≡ b
+        → (cond a (cond b (rest / 60) room) 0 ≤ room) × (60 * cond a (cond b (rest / 60) room) 0 ≤ rest)
+    go true true e = let h = ltb-true (rest / 60) room e in (omega arith, omega arith)
+    go true false e = let h = ltb-false (rest / 60) room e in (omega arith, omega arith)
+    go false b e = (omega arith, omega arith)
+
 -- ---- how many bytes a feed takes
 
 -- from a place where no byte is carried: whole records, and what comes behind them

@@ -27,6 +27,7 @@ use Rattle.trace.specs.Endings.{ending}
 use Rattle.trace.specs.Sessions.{resetSession, readSession, textSession, fullPiece, readingIn, continued, afterPiece, pieceLines, sessionEnding, afterPieces, piecesLines, allWritten}
 use Rattle.trace.specs.InPieces.{replayed, joined, AllFull, unread, begun, fromText, InPieces}
 use Rattle.trace.proofs.SavedTexts.{form-read}
+use Rattle.trace.proofs.Bytes.{bytes-still}
 use Rattle.trace.proofs.Readers.{Kept, bytes-kept, reading-back}
 use Rattle.trace.proofs.Replying.{written-append}
 use Rattle.trace.proofs.SessionLaws.{session-kept, piece-still, piece-goes}
@@ -107,26 +108,9 @@ module _ (m : Memory) where
   -- ---- after refusal 8 bytes leave nothing behind
 
   module _ (x : Reading) (h : x .replay .stopped ≡ true) where
-    byte-still : (b : ℕ) → (afterByte m x b ≡ x) × (byteReplies m x b ≡ [])
-    unfolding afterByte byteReplies
-    byte-still b = (
-      (λ j.
-          cond (h j) x
-          (cond (ltb (length (x .left)) 59) (reading (x .replay) (x .left ++ b ∷ [])) (reading (afterRecord m (x .replay) (x .left ++ b ∷ [])) []))),
-      (λ j. cond (h j) [] (cond (ltb (length (x .left)) 59) [] (recordReplies m (x .replay) (x .left ++ b ∷ [])))),
-    )
-
-    bytes-still : (bytes : List ℕ) → (afterBytes m x bytes ≡ x) × (repliesTo m x bytes ≡ [])
-    unfolding fold outputs
-    bytes-still [] = (refl, refl)
-    bytes-still (b ∷ bytes) =
-        let e = byte-still b in
-        let r = bytes-still bytes in
-        ((λ j. afterBytes m (e .0 j) bytes) ∙ r .0, (λ j. e .1 j ++ repliesTo m (e .0 j) bytes) ∙ r .1)
-
     replayed-stopped : (trace : List ℕ) → replayed m x trace ≡ endingOf x
     unfolding written
-    replayed-stopped trace = let e = bytes-still trace in λ j. written replyLine (e .1 j) ++ endingOf (e .0 j)
+    replayed-stopped trace = let e = bytes-still m x h trace in λ j. written replyLine (e .1 j) ++ endingOf (e .0 j)
 
   -- ---- a trace cut anywhere
 

@@ -1,91 +1,141 @@
+use Prim.Native.Nat.{_+_, _-_, _*_, _≤_, min}
+use mathlib.Core.Path.{_≡_, refl, sym, ap, subst, _∙_}
+use mathlib.Core.List.{[]}
+use native.Mathlib.Omega.{arith}
+use lib.ListN.{length, drop}
 use borrow.Author.Needs.{needs}
+use Rattle.map.specs.declared.Map.{Map}
+use Rattle.paging.specs.Memory.{Memory, memoryAt}
+use Rattle.state.specs.Hold.{canHold}
+use Rattle.state.proofs.SliceLaws.{all-loaded}
+use Rattle.trace.specs.declared.Opening.{Opening}
+use Rattle.trace.specs.Replies.{widthOf, target, spared}
+use Rattle.trace.specs.Parts.{wholesIn}
+use Rattle.trace.proofs.Parts.{wholes-fit}
+use Rattle.trace.proofs.Batching.{both-long}
+use Rattle.trace.proofs.FeedLaws.{Fitting, fitting, begin, batch-filled, room-left, fed-by}
 use Rattle.trace.proofs.feeding.read.Statement.{statement}
 use Rattle.trace.proofs.feeding.read.Tie as tie
-use Rattle.trace.proofs.feeding.read.Reads as reads
-use Rattle.trace.proofs.feeding.read.Lts as lts
-use Rattle.state.proofs.words_can_hold.Reads as words-can-hold-reads
-use Rattle.trace.proofs.batch.batch.Reads as batch-reads
-use Rattle.trace.proofs.feeding.capped.Reads as capped-reads
-use Rattle.trace.proofs.feeding.close.Reads as close-reads
-use Rattle.trace.proofs.feeding.open.Reads as open-reads
-use Rattle.trace.proofs.feeding.wholes.Reads as wholes-reads
 
--- src/feeding.rt:132:9
-capped-requires : tie.Need-capped-requires
-capped-requires c κs = search needs
+-- a map, where any will do
+abbrev some : Map
+some = record { count = 0; ranges = [] }
 
--- src/feeding.rt:133:9
-open-requires : tie.Need-open-requires
-open-requires c κs = search needs
+sized : (s : tie.Start) → length (s .args .reader .carried) ≡ 59
+sized s = search needs
 
--- src/feeding.rt:139:15
-words-can-hold-requires : tie.Need-words-can-hold-requires
-words-can-hold-requires c κs = search needs
+module _ (c : tie.After-open) where
+  abbrev start : tie.Start
+  start = c .before .before .before .before .before .before .before
 
--- src/feeding.rt:149:9
-slice-aggregate-batch : tie.Need-slice-aggregate-batch
-slice-aggregate-batch c = search needs
+  fits : let a = start .args in Fitting (c .before .capped .result) (a .room) (length (a .scrap .now)) (c .«open» .result)
+  fits =
+      let a = start .args in
+      let count = c .before .capped .result in
+      subst (λ (o : Opening). Fitting count (a .room) (length (a .scrap .now)) o) (sym (c .«open» .ensures))
+      (fitting (a .reader .carried) count (a .room) (a .scrap .now) (omega (arith, c .before .capped .ensures)))
 
--- src/feeding.rt:145:9
 batch-requires : tie.Need-batch-requires
-batch-requires c κs = ?
+batch-requires c κs =
+    let h = c .before .before .before .before in
+    let o = h .before .before .before .before in
+    let b = start o in
+    let f = fits o in
+    let size : length (b .args .words .now) ≡ 43 = search needs in (
+      omega (arith, f .text),
+      (
+        room-left (b .args .output) {filled = 0} {heads = 0} (omega arith) (omega arith) (omega (arith, f .heads)) (b .pre),
+        h .words-can-hold .ensures ∙ ap canHold (all-loaded (b .args .words .now) size),
+      ),
+    )
 
--- src/feeding.rt:157:24
+-- the opening, before the first batch
+abbrev opened : tie.After-batch → tie.After-open
+opened c = c .before .before .before .before .before .before .before .before .before
+
+-- the first batch, before the whole records are counted
+abbrev headed : tie.After-wholes → tie.After-batch
+headed c = c .before .before .before .before .before
+
 sub-wholes : tie.Need-sub-wholes
-sub-wholes c = ?
+sub-wholes c = fits (opened (c .before .before .before .before)) .heads
 
--- src/feeding.rt:157:38
 sub-wholes-2 : tie.Need-sub-wholes-2
-sub-wholes-2 c = ?
+sub-wholes-2 c = fits (opened (c .before .before .before .before)) .at
 
--- src/feeding.rt:157:9
-wholes-requires : tie.Need-wholes-requires
-wholes-requires c κs = search needs
+-- the whole records lie in the scrap, and there is room for them
+wholes-within : (c : tie.After-wholes) → let o = opened (headed c) in let a = start o .args in
+    (c .wholes .result ≤ a .room - o .«open» .result .heads) × (o .«open» .result .at + 60 * c .wholes .result ≤ length (a .scrap .now))
+wholes-within c =
+    let o = opened (headed c) in
+    let a = start o .args in
+    let r = o .«open» .result in
+    let fit = wholes-fit (a .room - r .heads) (length (a .scrap .now) - r .at) (r .kept) in
+    (omega (arith, fit .0, c .wholes .ensures), omega (arith, fit .1, c .wholes .ensures, fits o .at))
 
--- src/feeding.rt:158:9
 batch-requires-2 : tie.Need-batch-requires-2
-batch-requires-2 c κs = ?
+batch-requires-2 c κs =
+    let w = c .before .before .before in
+    let b = headed w in
+    let o = opened b in
+    let s = start o in
+    let a = s .args in
+    let r = o .«open» .result in
+    let within = wholes-within w in
+    let filled = batch-filled (memoryAt (a .memory .now) (a .base)) (a .output) (r .heads) (r .text) some _ _ _ _ _ _ refl (b .batch .ensures .0 some) in (
+      within .1,
+      (
+        room-left (a .output) (filled .0) (fits o .heads) (within .0) (omega (arith, s .pre, filled .1)),
+        b .batch .ensures .1 .0,
+      ),
+    )
 
--- src/feeding.rt:170:38
 mul-close : tie.Need-mul-close
-mul-close c = ?
+mul-close c =
+    let w = c .before .before .before .before .before .before .before .before in
+    omega (arith, wholes-within w .1, start (opened (headed w)) .good .1 .1 .1 .1 .0 .1)
 
--- src/feeding.rt:170:33
 add-close : tie.Need-add-close
-add-close c = ?
+add-close c =
+    let w = c .before .before .before .before .before .before .before .before in
+    omega (arith, wholes-within w .1, start (opened (headed w)) .good .1 .1 .1 .1 .0 .1)
 
--- src/feeding.rt:170:5
 close-requires : tie.Need-close-requires
-close-requires c κs = ?
+close-requires c κs =
+    let w = c .before .before .before .before .before .before .before .before in
+    (fits (opened (headed w)) .kept, wholes-within w .1)
 
--- src/feeding.rt:116:1
-same-length : tie.Need-same-length
-same-length c = search needs
-
--- src/feeding.rt:116:1
-same-length-2 : tie.Need-same-length-2
-same-length-2 c = search needs
-
--- src/feeding.rt:116:1
 returns : tie.Need-returns
-returns c = ?
+returns c =
+    let t = c .before .before .before .before .before in
+    let w = t .before .before .before .before in
+    let b = headed w in
+    let o = opened b in
+    let h = b .before .before .before .before .before in
+    let a = start o .args in
+    let size = sized (start o) in (
+      (λ (map : Map).
+        fed-by (memoryAt (a .memory .now) (a .base)) (a .output) (a .reader) map (a .room) (a .scrap .now) (a .words .now) (target (a .output) (a .answers .now) (a .lines .now)) size
+        (h .words-can-hold .result) (o .before .capped .ensures) (o .«open» .ensures) (b .batch .ensures .0 map) (w .wholes .ensures) (t .batch2 .ensures .0 map) (c .close .ensures)),
+      t .batch2 .ensures .1 .1 ∙ b .batch .ensures .1 .1,
+    )
 
 pub read-spec : {M : Type 1} → statement M
 read-spec =
     tie.close
     (tie.spec
-    capped-requires
-    open-requires
-    words-can-hold-requires
-    slice-aggregate-batch
+    (λ c κs. search needs)
+    (λ c κs. search needs)
+    (λ c κs. search needs)
+    (λ c. search needs)
     batch-requires
     sub-wholes
     sub-wholes-2
-    wholes-requires
+    (λ c κs. search needs)
     batch-requires-2
     mul-close
     add-close
     close-requires
-    same-length
-    same-length-2
+    (λ c. search needs)
+    (λ c. search needs)
     returns)
