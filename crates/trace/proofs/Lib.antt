@@ -5,3 +5,4 @@ pub mod SavedTexts
 pub mod TextOutput
 pub mod Endings
 pub mod Readers
+pub mod CutAnywhere

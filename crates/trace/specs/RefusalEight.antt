@@ -47,7 +47,6 @@ pub record RefusalEight (m : Memory) : Type 0 where
   pub formed : (step a b : ℕ) → step ≤ 17 → decoded step a b ≡ Nothing → ⊥
   -- no other length is a record
   pub sixty : (text : List ℕ) (step a b : ℕ) → Names text step a b → length text ≡ 60
-
   -- ---- the byte that completes a record
 
   -- refusal 8, with the record's number, which stays; nothing is left over
@@ -59,7 +58,6 @@ pub record RefusalEight (m : Memory) : Type 0 where
   pub answered : (x : Reading) (b step a b′ : ℕ) (s : Step) → Completes x → Names (x .left ++ b ∷ []) step a b′ → decoded step a b′ ≡ Formed s →
       let after = stepped (x .replay .hart) (x .replay .map) m s in
       (byteReplies m x b ≡ Answered (after .answer) (isAccess s) ∷ []) × (afterByte m x b ≡ reading (afterStep after (x .replay .number)) [])
-
   -- ---- any other byte
 
   -- "judged once all 60 bytes are there": before, a byte is kept and nothing else
