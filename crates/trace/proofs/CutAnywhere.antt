@@ -17,24 +17,18 @@ use Rattle.trace.specs.Replies.{Reply}
 use Rattle.trace.specs.Reading.{Replay, Reading, reading, afterRecord, recordReplies, afterByte, byteReplies, afterBytes, repliesTo}
 use Rattle.trace.specs.Feeding.{leftOf, readingOf, answerable, afterFeed, feedReplies, takenBy, fed}
 use Rattle.trace.specs.CutAnywhere.{Feed, Held, heldAfter, takenFrom, answersTo, lentAt, afterFeeds, allTaken, allAnswers, allLent, Outcome, outcome, SameTrace, CutAnywhere}
+use Rattle.trace.proofs.OneByte.{bytes-ignored}
 use Rattle.trace.proofs.Readers.{Kept, reading-kept, bytes-kept, reading-back}
 
--- ---- bytes that nothing is done with: those after refusal 8
+-- ---- the bytes that a feed takes
+
+pub front-taken : (x : Reading) (room : ℕ) (scrap : List ℕ) → take (length (answerable x room scrap)) scrap ≡ answerable x room scrap
+front-taken x room scrap =
+    let n = (60 * room + 59) - length (x .left) in
+    ap (take (length (take n scrap))) (sym (take-append-drop n scrap)) ∙ take-at (take n scrap) (drop n scrap) (length (take n scrap)) refl
 
 module _ (m : Memory) where
-  pub byte-ignored : (x : Reading) (b : ℕ) → x .replay .stopped ≡ true → (afterByte m x b ≡ x) × (byteReplies m x b ≡ [])
-  unfolding afterByte byteReplies
-  byte-ignored x b h = (rw h, rw h)
-
-  pub bytes-ignored : (x : Reading) → x .replay .stopped ≡ true → (bs : List ℕ) → (afterBytes m x bs ≡ x) × (repliesTo m x bs ≡ [])
-  unfolding fold outputs
-  bytes-ignored x h [] = (refl, refl)
-  bytes-ignored x h (b ∷ bs) =
-      let e = byte-ignored x b h in
-      let r = bytes-ignored x h bs in
-      ((λ j. afterBytes m (e .0 j) bs) ∙ r .0, (λ j. e .1 j ++ repliesTo m (e .0 j) bs) ∙ r .1)
-
-  -- so the bytes that a feed takes come to what those come to that it has room to answer
+  -- they come to what those come to that it has room to answer: bytes after refusal 8 are ignored
   pub taken-read : (x : Reading) (room : ℕ) (scrap : List ℕ)
       → (afterBytes m x (take (takenBy m x room scrap) scrap) ≡ afterFeed m x room scrap)
       × (repliesTo m x (take (takenBy m x room scrap) scrap) ≡ feedReplies m x room scrap)
@@ -54,14 +48,12 @@ module _ (m : Memory) where
           × (repliesTo m x (take (cond s (length scrap) (length front)) scrap) ≡ repliesTo m x front)
       go true p =
           let t : take (length scrap) scrap ≡ front ++ back = take-length scrap ∙ sym whole in
-          let i = bytes-ignored (afterBytes m x front) p back in (
+          let i = bytes-ignored m (afterBytes m x front) p back in (
             ap (afterBytes m x) t ∙ fold-append (afterByte m) x front back ∙ i .0,
             ap (repliesTo m x) t ∙ outputs-append (afterByte m) (byteReplies m) x front back ∙ ap (λ (l : List Reply). repliesTo m x front ++ l) (i .1)
                 ∙ append-nil (repliesTo m x front),
           )
-      go false p =
-          let t : take (length front) scrap ≡ front = ap (take (length front)) (sym whole) ∙ take-at front back (length front) refl in
-          (ap (afterBytes m x) t, ap (repliesTo m x) t)
+      go false p = let t = front-taken x room scrap in (ap (afterBytes m x) t, ap (repliesTo m x) t)
 
 -- ---- bytes with a memory for each record that is answered
 

@@ -5,4 +5,6 @@ pub mod SavedTexts
 pub mod TextOutput
 pub mod Endings
 pub mod Readers
+pub mod OneByte
 pub mod CutAnywhere
+pub mod Taking
