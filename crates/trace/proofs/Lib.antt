@@ -8,3 +8,4 @@ pub mod Readers
 pub mod OneByte
 pub mod CutAnywhere
 pub mod Taking
+pub mod RefusalEight
