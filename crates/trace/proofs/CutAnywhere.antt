@@ -1,7 +1,7 @@
 -- However the same bytes are cut, what they come to is the same. Assumes nothing.
 -- Both sides are the bytes read at once, with a list of memories of which each record that is answered uses up one.
 use Prim.Native.Nat.{ℕ, _+_, _-_, _*_}
-use mathlib.Core.Path.{_≡_, refl, sym, ap, ap₂, _∙_}
+use mathlib.Core.Path.{_≡_, refl, sym, ap, _∙_}
 use mathlib.Core.Bool.{Bool, true, false, cond}
 use mathlib.Core.List.{List, [], _∷_, _++_, append-assoc, append-nil}
 use lib.Dec.{ltb}
@@ -10,15 +10,13 @@ use lib.Seq.{take-at, take-length}
 use Rattle.bits.specs.Fold.{fold, outputs}
 use Rattle.bits.proofs.FoldLaws.{fold-append, outputs-append}
 use Rattle.paging.specs.Memory.{Memory, memoryAt}
-use Rattle.map.specs.declared.Map.{Map}
-use Rattle.hart.specs.declared.Hart.{Hart}
 use Rattle.trace.specs.declared.Reader.{Reader}
 use Rattle.trace.specs.Replies.{Reply}
 use Rattle.trace.specs.Reading.{Replay, Reading, reading, afterRecord, recordReplies, afterByte, byteReplies, afterBytes, repliesTo}
-use Rattle.trace.specs.Feeding.{leftOf, readingOf, answerable, afterFeed, feedReplies, takenBy, fed}
-use Rattle.trace.specs.CutAnywhere.{Feed, Held, heldAfter, takenFrom, answersTo, lentAt, afterFeeds, allTaken, allAnswers, allLent, Outcome, outcome, SameTrace, CutAnywhere}
+use Rattle.trace.specs.Feeding.{readingOf, answerable, afterFeed, feedReplies, takenBy, fed}
+use Rattle.trace.specs.CutAnywhere.{Feed, Held, heldAfter, takenFrom, answersTo, lentAt, afterFeeds, allTaken, allAnswers, allLent, Outcome, outcome, CutAnywhere, AllLend, atOnce, OneSlice}
 use Rattle.trace.proofs.OneByte.{bytes-ignored}
-use Rattle.trace.proofs.Readers.{Kept, reading-kept, bytes-kept, reading-back}
+use Rattle.trace.proofs.Readers.{reading-kept, bytes-kept, reading-back}
 
 -- ---- the bytes that a feed takes
 
@@ -194,12 +192,41 @@ abbrev ends : List Reply → Reading → Outcome
 ends answers x =
     record { answers = answers; hart = x .replay .hart; map = x .replay .map; number = x .replay .number; stopped = x .replay .stopped; left = x .left }
 
--- bytes at once
-abbrev atOnce : Reading → List ℕ → List Memory → Outcome
-atOnce x bs ms = ends (outputs runByte runReplies (run x (ms ++ [])) bs) (fold runByte (run x (ms ++ [])) bs .reading)
+-- bytes in a row, with their memories
+abbrev throughout : Reading → List ℕ → List Memory → Outcome
+throughout x bs ms = ends (outputs runByte runReplies (run x (ms ++ [])) bs) (fold runByte (run x (ms ++ [])) bs .reading)
 
-outcome-at-once : (c : Held) (fs : List Feed) → outcome c fs ≡ atOnce (readingIn c) (allTaken c fs) (allLent c fs)
-outcome-at-once c fs = let r = run-feeds fs c [] in sym (λ j. ends (r .1 j) (r .0 j .reading))
+outcome-throughout : (c : Held) (fs : List Feed) → outcome c fs ≡ throughout (readingIn c) (allTaken c fs) (allLent c fs)
+outcome-throughout c fs = let r = run-feeds fs c [] in sym (λ j. ends (r .1 j) (r .0 j .reading))
 
 pub cut-anywhere : CutAnywhere
-cut-anywhere c fs gs same = outcome-at-once c fs ∙ (λ j. atOnce (readingIn c) (same .0 j) (same .1 j)) ∙ sym (outcome-at-once c gs)
+cut-anywhere c fs gs same = outcome-throughout c fs ∙ (λ j. throughout (readingIn c) (same .0 j) (same .1 j)) ∙ sym (outcome-throughout c gs)
+
+-- ---- one slice of memory for all records
+
+module _ (m : Memory) where
+  slice-read : (fs : List Feed) (c : Held) → AllLend m fs
+      → (readingIn (afterFeeds c fs) ≡ afterBytes m (readingIn c) (allTaken c fs)) × (allAnswers c fs ≡ repliesTo m (readingIn c) (allTaken c fs))
+  unfolding fold outputs
+  slice-read [] c lend = (refl, refl)
+  slice-read (f ∷ fs) c lend =
+      let x = readingIn c in
+      let bs = takenFrom c f in
+      let d = heldAfter c f in
+      let cs = allTaken d fs in
+      let e = feed-read c f in
+      let here : readingIn d ≡ afterBytes m x bs = e .0 ∙ (λ j. afterBytes (lend .0 j) x bs) in
+      let answers : answersTo c f ≡ repliesTo m x bs = e .1 ∙ (λ j. repliesTo (lend .0 j) x bs) in
+      let r = slice-read fs d (lend .1) in (
+        r .0 ∙ (λ j. afterBytes m (here j) cs) ∙ sym (fold-append (afterByte m) x bs cs),
+        (λ j. answers j ++ r .1 j) ∙ (λ j. repliesTo m x bs ++ repliesTo m (here j) cs) ∙ sym (outputs-append (afterByte m) (byteReplies m) x bs cs),
+      )
+
+  slice-at-once : (c : Held) (fs : List Feed) → AllLend m fs → outcome c fs ≡ atOnce m (readingIn c) (allTaken c fs)
+  slice-at-once c fs lend = let r = slice-read fs c lend in λ j. ends (r .1 j) (r .0 j)
+
+  pub one-slice : OneSlice m
+  one-slice = record {
+    at-once = slice-at-once;
+    alike = λ c fs gs l k e. slice-at-once c fs l ∙ ap (atOnce m (readingIn c)) e ∙ sym (slice-at-once c gs k);
+  }

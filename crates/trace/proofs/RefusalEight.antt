@@ -1,12 +1,12 @@
 -- Refusal 8 comes exactly where a record names no step. Assumes nothing.
-use Prim.Native.Nat.{ℕ, zero, suc, _+_, _%_, _^_, _≤_, _<_}
-use mathlib.Core.Path.{_≡_, refl, sym, ap, _∙_, subst}
+use Prim.Native.Nat.{ℕ, zero, suc, _^_, _≤_, _<_}
+use mathlib.Core.Path.{_≡_, refl, sym, ap, _∙_}
 use mathlib.Core.Bool.{Bool, true, false, cond, not, _&&_, _||_, false≢true}
 use mathlib.Core.List.{List, [], _∷_, _++_}
 use native.Mathlib.Omega.{arith}
 use lib.Dec.{eqb, leb}
 use lib.ListN.{length, getD}
-use borrow.Author.Tests.{eqb-true, eqb-false, eq-eqb, ne-eqb, leb-true, leb-false}
+use borrow.Author.Tests.{eqb-true, eq-eqb, ne-eqb, leb-true, leb-false}
 use Rattle.bits.specs.Lists.{Words}
 use Rattle.bits.specs.Same.{sameList}
 use Rattle.bits.proofs.Conjunction.{both}
@@ -20,12 +20,11 @@ use Rattle.steps.specs.Decode.{decoded, isAccess}
 use Rattle.steps.proofs.NumberLaws.{number-formed}
 use Rattle.paging.specs.Memory.{Memory}
 use Rattle.hart.specs.declared.Stepped.{Stepped}
-use Rattle.hart.specs.Steps.{stepped}
 use Rattle.records.specs.Records.{keys, recordOf, readRecord, ignoresFirst, ignoresSecond, unusedAreZero, recordStep, readStep}
 use Rattle.records.proofs.Back.{record-back}
-use Rattle.trace.specs.Replies.{Reply, Answered, Broken}
-use Rattle.trace.specs.Reading.{Replay, Reading, reading, afterStep, stoppedAt, afterDecoded, replyTo, afterByte, byteReplies}
-use Rattle.trace.specs.RefusalEight.{Names, NamesNone, Completes, numbers, RefusalEight, WorkedRecords}
+use Rattle.trace.specs.Replies.{Answered, Broken}
+use Rattle.trace.specs.Reading.{Replay, Reading, reading, afterDecoded, replyTo, afterByte, byteReplies}
+use Rattle.trace.specs.RefusalEight.{Names, NamesNone, Completes, RefusalEight, WorkedRecords}
 use Rattle.trace.proofs.OneByte.{byte-ignored, byte-short, byte-full}
 
 -- ---- unused arguments
@@ -178,6 +177,12 @@ refusal-eight m = record {
   refused = λ x b h n. judged m x b h Nothing (none (x .left ++ b ∷ []) n);
   refused-only = λ x b number h. refused-only m x b h number;
   answered = λ x b step a b′ s h n e. judged m x b h (Formed s) (named (x .left ++ b ∷ []) step a b′ n ∙ e);
+  goes-on = λ x b step a b′ n s h k e r.
+      let j = judged m x b h (Formed s) (named (x .left ++ b ∷ []) step a b′ k ∙ e) in (
+        j .0 ∙ (λ i. Answered (r i) (isAccess s) ∷ []),
+        ap (λ (y : Reading). y .replay .stopped) (j .1),
+        ap (λ (y : Reading). y .replay .number) (j .1),
+      );
   unjudged = λ x b h l. let r = byte-short m x b h l in (r .1, r .0);
   later = λ x b h. let r = byte-ignored m x b h in (r .1, r .0);
 }

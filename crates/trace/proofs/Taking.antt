@@ -1,25 +1,31 @@
 -- What one feed takes, answers and leaves. Assumes nothing.
-use Prim.Native.Nat.{ℕ, _+_, _-_, _*_, _%_, _^_, _≤_, _<_, min}
+use Prim.Native.Nat.{ℕ, _+_, _-_, _*_, _≤_, _<_, min}
 use mathlib.Core.Path.{_≡_, refl, sym, ap, _∙_}
 use mathlib.Core.Bool.{Bool, true, false, cond}
-use mathlib.Core.List.{List, [], _∷_, _++_}
+use mathlib.Core.List.{List, [], _++_}
 use native.Mathlib.Omega.{arith}
-use lib.ListN.{length, take, drop, length-append, length-take}
-use lib.Seq.{take-nil}
+use lib.ListN.{length, take, drop, replicate, length-append, length-take, length-replicate}
+use lib.Seq.{take-nil, length-sets}
 use Rattle.bits.proofs.FoldLaws.{fold-nil, outputs-nil}
 use Rattle.paging.specs.Memory.{Memory}
-use Rattle.map.specs.declared.Map.{Map}
-use Rattle.hart.specs.declared.Hart.{Hart}
 use Rattle.trace.specs.declared.Fed.{Fed}
 use Rattle.trace.specs.declared.Reader.{Reader}
-use Rattle.trace.specs.Replies.{Reply, Broken}
+use Rattle.trace.specs.Replies.{Reply}
 use Rattle.trace.specs.Reading.{Replay, Reading, reading, afterByte, byteReplies, afterBytes, repliesTo}
-use Rattle.trace.specs.Feeding.{leftOf, readingOf, readerOf, answerable, afterFeed, feedReplies, takenBy, fed}
+use Rattle.trace.specs.Feeding.{leftOf, readingOf, readerOf, answerable, afterFeed, feedReplies, takenBy, fed, leftCount}
 use Rattle.trace.specs.CutAnywhere.{Held, Feed, feeding, takenFrom, answersTo}
-use Rattle.trace.specs.Taking.{counting, Unmoved, Taking}
+use Rattle.trace.specs.Taking.{counting, Unmoved, Taking, Starting}
 use Rattle.trace.proofs.Readers.{Kept, reading-kept, bytes-kept, left-back}
 use Rattle.trace.proofs.OneByte.{bytes-ignored, answers-bound, left-behind, number-on, stops}
 use Rattle.trace.proofs.CutAnywhere.{front-taken}
+
+-- the count that is reported is that of the bytes left over
+reported : (r : Reader) → length (r .carried) ≡ 59 → leftCount (r .stopped) (r .count) ≡ length (leftOf r)
+reported r h = go (r .stopped)
+  where
+    go : (s : Bool) → cond s 0 (min (r .count) 59) ≡ length (cond s [] (take (min (r .count) 59) (r .carried)))
+    go true = refl
+    go false = omega (arith, length-take (min (r .count) 59) (r .carried))
 
 module _ (c : Held) (f : Feed) where
   abbrev m : Memory
@@ -93,6 +99,9 @@ module _ (c : Held) (f : Feed) where
         omega (arith, n, l, r .1, length-append (x .left) front),
       )
 
+  carries : length (readerOf after .carried) ≡ 59
+  carries = length-sets (replicate 59 0) 0 (after .left) ∙ length-replicate {A = ℕ} 59 0
+
   nothing-left : after .replay .stopped ≡ true → leftOf (readerOf after) ≡ []
   nothing-left p = left-after ∙ after-kept .none p
 
@@ -142,6 +151,9 @@ taking c f = record {
   all = taken c f .2;
   short = let l = ap length (left-after c f) in omega (arith, l, after-kept c f .short);
   left = left c f;
+  reported = reported (c .reader);
+  reported-after = reported (readerOf (after c f)) (carries c f);
+  carries = carries c f;
   number = λ b h. number-on (m c f) (front c f) (x c f) b h;
   stops = λ s h.
       let r = stops (m c f) (front c f) (x c f) s h in
@@ -153,3 +165,6 @@ taking c f = record {
   empty = empty c f;
   capped = capped c f;
 }
+
+pub starting : Starting
+starting = record { carries = refl; left = refl; number = refl; stopped = refl }

@@ -3,7 +3,7 @@
 use Prim.Native.Nat.{ℕ}
 use mathlib.Core.Path.{_≡_}
 use mathlib.Core.Bool.{Bool}
-use mathlib.Core.List.{List}
+use mathlib.Core.List.{List, [], _∷_}
 use lib.ListN.{take, replicate}
 use Rattle.bits.specs.Fold.{fold, outputs}
 use Rattle.paging.specs.Memory.{Memory}
@@ -12,6 +12,7 @@ use Rattle.hart.specs.declared.Hart.{Hart}
 use Rattle.trace.specs.declared.Fed.{Fed}
 use Rattle.trace.specs.declared.Reader.{Reader}
 use Rattle.trace.specs.Replies.{Reply}
+use Rattle.trace.specs.Reading.{Reading, afterBytes, repliesTo}
 use Rattle.trace.specs.Feeding.{leftOf, readingOf, feedReplies, fed}
 
 -- one call: the scrap, the room for answers, the memory lent
@@ -83,3 +84,26 @@ SameTrace c fs gs = (allTaken c fs ≡ allTaken c gs) × (allLent c fs ≡ allLe
 -- the claim
 abbrev pub CutAnywhere : Type 0
 CutAnywhere = (c : Held) (fs gs : List Feed) → SameTrace c fs gs → outcome c fs ≡ outcome c gs
+
+-- ---- one slice of memory for all records
+
+abbrev pub AllLend : Memory → List Feed → Type 0
+AllLend m [] = Unit {0}
+AllLend m (f ∷ fs) = (f .memory ≡ m) × AllLend m fs
+
+-- bytes that come one by one, with room for every answer
+abbrev pub atOnce : Memory → Reading → List ℕ → Outcome
+atOnce m x bytes = record {
+  answers = repliesTo m x bytes;
+  hart = afterBytes m x bytes .replay .hart;
+  map = afterBytes m x bytes .replay .map;
+  number = afterBytes m x bytes .replay .number;
+  stopped = afterBytes m x bytes .replay .stopped;
+  left = afterBytes m x bytes .left;
+}
+
+pub record OneSlice (m : Memory) : Type 0 where
+  -- feeds come to what the bytes that they take come to at once
+  pub at-once : (c : Held) (fs : List Feed) → AllLend m fs → outcome c fs ≡ atOnce m (readingOf (c .reader) (c .hart) (c .map)) (allTaken c fs)
+  -- so the same bytes are enough for the same outcome
+  pub alike : (c : Held) (fs gs : List Feed) → AllLend m fs → AllLend m gs → allTaken c fs ≡ allTaken c gs → outcome c fs ≡ outcome c gs

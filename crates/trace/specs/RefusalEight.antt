@@ -1,19 +1,20 @@
 -- 02, [1]: refusal 8 exactly where a record names no step, judged once all 60 bytes are there; any other record is answered by its step.
 use Prim.Native.Nat.{ℕ, _+_, _%_, _^_, _≤_, _<_}
 use mathlib.Core.Path.{_≡_}
-use mathlib.Core.Bool.{Bool, true, false}
+use mathlib.Core.Bool.{true, false}
 use mathlib.Core.List.{List, [], _∷_, _++_, map}
 use lib.ListN.{length}
 use Rattle.bits.specs.Lists.{Words}
 use Rattle.lines.specs.Lines.{bytesOf}
 use Rattle.steps.specs.declared.Decoded.the-variants.{Formed, Nothing}
 use Rattle.steps.specs.declared.Step.{Step}
+use Rattle.steps.specs.declared.Answer.the-variants.{Refused}
 use Rattle.steps.specs.Decode.{decoded, isAccess}
 use Rattle.paging.specs.Memory.{Memory}
 use Rattle.hart.specs.declared.Stepped.{Stepped}
 use Rattle.hart.specs.Steps.{stepped}
 use Rattle.records.specs.Records.{recordOf, ignoresFirst, ignoresSecond, readStep}
-use Rattle.trace.specs.Replies.{Reply, Answered, Broken}
+use Rattle.trace.specs.Replies.{Answered, Broken}
 use Rattle.trace.specs.Reading.{Replay, Reading, reading, afterStep, stoppedAt, afterByte, byteReplies}
 
 -- "three lines, `step=`, `a=`, `b=`, each with 16 lower-case hexadecimal digits and a line feed", a step number not above 17, and "unused arguments are 0"
@@ -54,10 +55,15 @@ pub record RefusalEight (m : Memory) : Type 0 where
       → (byteReplies m x b ≡ Broken (x .replay .number) ∷ []) × (afterByte m x b ≡ reading (stoppedAt (x .replay)) [])
   -- and no other refuses so
   pub refused-only : (x : Reading) (b number : ℕ) → Completes x → byteReplies m x b ≡ Broken number ∷ [] → NamesNone (x .left ++ b ∷ [])
-  -- "the hart steps at each full record"; "a step that 01 refuses is an answer like others, and reading goes on", by refusal 3 too
+  -- "the hart steps at each full record", and the answer is given out whatever it is
   pub answered : (x : Reading) (b step a b′ : ℕ) (s : Step) → Completes x → Names (x .left ++ b ∷ []) step a b′ → decoded step a b′ ≡ Formed s →
       let after = stepped (x .replay .hart) (x .replay .map) m s in
       (byteReplies m x b ≡ Answered (after .answer) (isAccess s) ∷ []) × (afterByte m x b ≡ reading (afterStep after (x .replay .number)) [])
+  -- "a step that 01 refuses is an answer like others, and reading goes on", with the next number; "refusal 3 is each step's own"
+  pub goes-on : (x : Reading) (b step a b′ n : ℕ) (s : Step) → Completes x → Names (x .left ++ b ∷ []) step a b′ → decoded step a b′ ≡ Formed s
+      → stepped (x .replay .hart) (x .replay .map) m s .answer ≡ Refused n
+      → (byteReplies m x b ≡ Answered (Refused n) (isAccess s) ∷ [])
+      × (afterByte m x b .replay .stopped ≡ false) × (afterByte m x b .replay .number ≡ (x .replay .number + 1) % 2 ^ 64)
   -- ---- any other byte
 
   -- "judged once all 60 bytes are there": before, a byte is kept and nothing else
@@ -74,7 +80,7 @@ pub record WorkedRecords : Type 0 where
   -- nor b, and steps 4, 6 and 13 do not use b
   pub second : map ignoresSecond numbers
       ≡ true ∷ false ∷ false ∷ false ∷ true ∷ false ∷ true ∷ true ∷ true ∷ true ∷ true ∷ true ∷ true ∷ true ∷ true ∷ false ∷ false ∷ false ∷ []
-  pub letters : recordOf 5 2 0xab ≡ bytesOf "step=0000000000000005\na=0000000000000002\nb=00000000000000ab\n"
+  pub letters : recordOf 17 0x0123456789abcdef 0xfedcba9876543210 ≡ bytesOf "step=0000000000000011\na=0123456789abcdef\nb=fedcba9876543210\n"
   -- a step number above 17
   pub eighteen : readStep (bytesOf "step=0000000000000012\na=0000000000000000\nb=0000000000000000\n") ≡ Nothing
   -- an unused argument that is not 0

@@ -2,14 +2,12 @@
 use Prim.Native.Nat.{ℕ, _+_, _-_, _*_, _%_, _^_, _≤_, _<_}
 use mathlib.Core.Path.{_≡_}
 use mathlib.Core.Bool.{true, false}
-use mathlib.Core.List.{List, [], _∷_, _++_}
+use mathlib.Core.List.{[], _∷_, _++_}
 use lib.ListN.{length, take, drop}
-use Rattle.map.specs.declared.Map.{Map}
-use Rattle.hart.specs.declared.Hart.{Hart}
 use Rattle.trace.specs.declared.Fed.{Fed}
 use Rattle.trace.specs.declared.Reader.{Reader}
-use Rattle.trace.specs.Replies.{Reply, Broken}
-use Rattle.trace.specs.Feeding.{leftOf}
+use Rattle.trace.specs.Replies.{Broken}
+use Rattle.trace.specs.Feeding.{leftOf, newReader, leftCount}
 use Rattle.trace.specs.CutAnywhere.{Held, Feed, feeding, takenFrom, answersTo}
 
 -- a reader with another count
@@ -41,6 +39,10 @@ pub record Taking (c : Held) (f : Feed) : Type 0 where
   pub left : feeding c f .reader .stopped ≡ false
       → (leftOf (feeding c f .reader) ≡ drop (60 * feeding c f .answered) (leftOf (c .reader) ++ takenFrom c f))
       × (length (leftOf (c .reader)) + feeding c f .taken ≡ 60 * feeding c f .answered + length (leftOf (feeding c f .reader)))
+  -- "reported as their count": what `left` gives, of the reader given and of the one handed back, which again carries 59 bytes
+  pub reported : length (c .reader .carried) ≡ 59 → leftCount (c .reader .stopped) (c .reader .count) ≡ length (leftOf (c .reader))
+  pub reported-after : leftCount (feeding c f .reader .stopped) (feeding c f .reader .count) ≡ length (leftOf (feeding c f .reader))
+  pub carries : length (feeding c f .reader .carried) ≡ 59
   -- "the record's number, from 0 modulo 2^64": one for each answer
   pub number : c .reader .number < 2 ^ 64 → feeding c f .reader .stopped ≡ false
       → feeding c f .reader .number ≡ (c .reader .number + feeding c f .answered) % 2 ^ 64
@@ -55,3 +57,10 @@ pub record Taking (c : Held) (f : Feed) : Type 0 where
   pub empty : f .scrap ≡ [] → Unmoved c (feeding c f)
   -- "a carried count above 59 is read as 59"
   pub capped : 59 < c .reader .count → feeding c f ≡ feeding (counting c 59) f
+
+-- before the first byte nothing is carried, and the first record's number is 0
+pub record Starting : Type 0 where
+  pub carries : length (newReader .carried) ≡ 59
+  pub left : leftOf newReader ≡ []
+  pub number : newReader .number ≡ 0
+  pub stopped : newReader .stopped ≡ false
