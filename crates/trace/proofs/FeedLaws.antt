@@ -1,5 +1,5 @@
 -- A feed: what its parts leave, and what they write, is what its bytes do. Assumes nothing.
-use Prim.Native.Nat.{ℕ, zero, suc, _+_, _-_, _*_, _≤_, min}
+use Prim.Native.Nat.{ℕ, zero, suc, _+_, _-_, _*_, _/_, _≤_, min}
 use mathlib.Core.Path.{_≡_, refl, sym, ap, subst, _∙_}
 use mathlib.Core.Bool.{Bool, true, false, cond, _||_}
 use native.Mathlib.Nat.{zero-add}
@@ -14,6 +14,8 @@ use Rattle.bits.proofs.Conjunction.{neither}
 use Rattle.paging.specs.Memory.{Memory}
 use Rattle.state.specs.Words.{stateOf}
 use Rattle.map.specs.declared.Map.{Map}
+use Rattle.hart.specs.declared.Hart.{Hart}
+use Rattle.hart.specs.declared.Mapped.{Mapped}
 use Rattle.hart.specs.Steps.{mapFor, hartWith}
 use Rattle.trace.specs.declared.Output.{Output}
 use Rattle.trace.specs.declared.Output.the-variants.{Words, Lines}
@@ -21,18 +23,19 @@ use Rattle.trace.specs.declared.Reader.{Reader}
 use Rattle.trace.specs.declared.Cursor.{Cursor}
 use Rattle.trace.specs.declared.Opening.{Opening}
 use Rattle.trace.specs.declared.Progress.{Progress}
+use Rattle.trace.specs.declared.Fed.{Fed}
 use Rattle.trace.specs.Buffers.{Put}
-use Rattle.trace.specs.Replies.{Reply, written, textBy, widthOf}
+use Rattle.trace.specs.Replies.{Reply, replyNumbers, written, textBy, widthOf}
 use Rattle.trace.specs.Reading.{Replay, Reading, reading, afterRecord, recordReplies}
-use Rattle.trace.specs.Feeding.{leftOf, readingOf, readerOf, afterFeed, feedReplies, takenBy, FedBy}
+use Rattle.trace.specs.Feeding.{leftOf, readingOf, readerOf, afterFeed, feedReplies, takenBy, FedBy, fed, feedWords}
 use Rattle.trace.specs.Batches.{recordsOf, afterRecords, recordsReplies, carriedBy, Batched}
-use Rattle.trace.specs.Parts.{unopened, openingOf, wholesIn, furtherIn, carrying, progressed, closed}
+use Rattle.trace.specs.Parts.{unopened, openingOf, wholesIn, furtherIn, carrying, progressed, closed, remade}
 use Rattle.trace.proofs.Readers.{front-sets}
 use Rattle.trace.proofs.Bytes.{ending}
 use Rattle.trace.proofs.Batching.{stopped-still}
 use Rattle.trace.proofs.Counting.{record-count}
 use Rattle.trace.proofs.Writing.{put-both, put-length}
-use Rattle.trace.proofs.Replying.{written-append, written-length}
+use Rattle.trace.proofs.Replying.{written-append, written-length, written-words}
 use Rattle.trace.proofs.Feeds.{Parted, stopped-parts, unopened-parts, opened-parts}
 
 -- ---- the numbers of an opening
@@ -237,3 +240,28 @@ module _ (m : Memory) (o : Output) (rd : Reader) (map : Map) (room : ℕ) (scrap
           behind = ap (λ (x : Progress). x .filled) ep ∙ rest .0 ∙ both .behind ∙ ap (λ (l : List ℕ). 0 + length l) said;
         };
       }
+
+-- ---- by value
+
+pub fed-value : (m : Memory) (rd : Reader) (h : Hart) (map : Map) (scrap answers : List ℕ) {words left after : List ℕ} {p : Progress} {back : Mapped} → stateOf words ≡ h .state
+    → FedBy m Words rd map (length answers / 4) scrap words answers p left after → back ≡ remade (stateOf left) (p .remap) map
+    → (_≡_ {A = Fed} (record { reader = p .reader; hart = back .hart; map = back .map; taken = p .taken; answered = p .filled / 4 }) (fed m rd h map (length answers / 4) scrap))
+    × (after ≡ feedWords m rd h map scrap answers)
+unfolding fed feedWords
+fed-value m rd h map scrap answers {words} {left} {after} {p} {back} e f b =
+    let room = length answers / 4 in
+    let same = λ j. afterFeed m (readingOf rd (hartWith (e j)) map) room scrap in
+    let replies = feedReplies m (readingOf rd (hartWith (stateOf words)) map) room scrap in
+    let count : p .filled / 4 ≡ length replies = omega (arith, f .put .behind, written-words replies) in
+    let hart = ap (λ (x : Mapped). x .hart) b ∙ f .hart in
+    let kept = ap (λ (x : Mapped). x .map) b ∙ f .map in (
+      (λ j. record { reader = f .reader j; hart = hart j; map = kept j; taken = f .taken j; answered = count j })
+          ∙ (λ j. record {
+            reader = readerOf (same j);
+            hart = same j .replay .hart;
+            map = same j .replay .map;
+            taken = takenBy m (readingOf rd (hartWith (e j)) map) room scrap;
+            answered = length (feedReplies m (readingOf rd (hartWith (e j)) map) room scrap);
+          }),
+      f .put .bytes ∙ (λ j. sets answers 0 (written replyNumbers (feedReplies m (readingOf rd (hartWith (e j)) map) room scrap))),
+    )

@@ -14,3 +14,7 @@ pub mod FeedLaws
 pub mod Counting
 pub mod SessionLaws
 pub mod Wholeness
+pub mod OneByte
+pub mod CutAnywhere
+pub mod Taking
+pub mod RefusalEight

@@ -12,3 +12,6 @@ pub mod TextOutput
 pub mod Endings
 pub mod Sessions
 pub mod InPieces
+pub mod CutAnywhere
+pub mod Taking
+pub mod RefusalEight

@@ -1,33 +1,17 @@
 use borrow.Author.Needs.{needs}
+use Rattle.paging.specs.Memory.{memoryAt}
+use Rattle.trace.proofs.FeedLaws.{fed-value}
 use Rattle.trace.proofs.Reader.feed.Statement.{statement}
 use Rattle.trace.proofs.Reader.feed.Tie as tie
-use Rattle.trace.proofs.Reader.feed.Reads as reads
-use Rattle.trace.proofs.Reader.feed.Lts as lts
-use Rattle.state.proofs.to_words.Reads as to-words-reads
-use Rattle.trace.proofs.Reader.feed_words.Reads as feed-words-reads
-use Rattle.trace.proofs.feeding.handed_back.Reads as handed-back-reads
 
--- src/reading.rt:82:25
-to-words-requires : tie.Need-to-words-requires
-to-words-requires c κs = search needs
-
--- src/reading.rt:83:13
-feed-words-requires : tie.Need-feed-words-requires
-feed-words-requires c κs = search needs
-
--- src/reading.rt:85:13
-handed-back-requires : tie.Need-handed-back-requires
-handed-back-requires c κs = search needs
-
--- src/reading.rt:69:5
-same-length : tie.Need-same-length
-same-length c = search needs
-
--- src/reading.rt:69:5
 returns : tie.Need-returns
-returns c = ?
+returns c =
+    let b = c .before .before .before in
+    let f = b .before .before .before .before in
+    let w = f .before .before .before in
+    let a = w .before .before .before .before .before .args in
+    fed-value (memoryAt (a .memory .now) (a .base)) (a .self) (a .hart) (a .map) (a .scrap .now) (a .answers .now) (w .to-words .ensures .1) (f .feed-words .ensures (a .map))
+    (b .handed-back .ensures)
 
 pub feed-spec : {M : Type 1} → statement M
-feed-spec =
-    tie.close
-    (tie.spec to-words-requires feed-words-requires handed-back-requires same-length returns)
+feed-spec = tie.close (tie.spec (λ c κs. search needs) (λ c κs. search needs) (λ c κs. search needs) (λ c. search needs) returns)
