@@ -36,7 +36,7 @@ module _ (m : Memory) where
     unfolding afterByte byteReplies
     byte-still b = (
       (λ j. cond (h j) x
-      (cond (ltb (length (x .left)) 59) (reading (x .replay) (x .left ++ b ∷ [])) (reading (afterRecord m (x .replay) (x .left ++ b ∷ [])) []))),
+          (cond (ltb (length (x .left)) 59) (reading (x .replay) (x .left ++ b ∷ [])) (reading (afterRecord m (x .replay) (x .left ++ b ∷ [])) []))),
       (λ j. cond (h j) [] (cond (ltb (length (x .left)) 59) [] (recordReplies m (x .replay) (x .left ++ b ∷ [])))),
     )
 

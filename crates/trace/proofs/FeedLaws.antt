@@ -250,7 +250,8 @@ pub fed-value : (m : Memory) (rd : Reader) (h : Hart) (map : Map) (scrap answers
 unfolding fed feedWords
 fed-value m rd h map scrap answers {words} {left} {after} {p} {back} e f b =
     let room = length answers / 4 in
-    let same = λ j. afterFeed m (readingOf rd (hartWith (e j)) map) room scrap in
+    let same : afterFeed m (readingOf rd (hartWith (stateOf words)) map) room scrap ≡ afterFeed m (readingOf rd h map) room scrap =
+    λ j. afterFeed m (readingOf rd (hartWith (e j)) map) room scrap in
     let replies = feedReplies m (readingOf rd (hartWith (stateOf words)) map) room scrap in
     let count : p .filled / 4 ≡ length replies = omega (arith, f .put .behind, written-words replies) in
     let hart = ap (λ (x : Mapped). x .hart) b ∙ f .hart in

@@ -81,7 +81,7 @@ module _ {M : Type 1} (𝓤 : URA M) (H : Heap 𝓤) (A : Atoms 𝓤) (W : Given
   Post = walkOf 𝓤 H A next′.ended stayed (next′.clauses 𝓤 H A at-mem run) .post (((κ0, tt), (q0, tt), tt, x, at), tt)
 
   abbrev found : Decoded
-  found = readAt (now (d .bytes)) (d .at) 
+  found = readAt (now (d .bytes)) (d .at)
 
   -- the struct's type and laws, and d's fields' values
   abbrev D : Declared

@@ -88,10 +88,10 @@ module _ {M : Type 1} (𝓤 : URA M) (H : Heap 𝓤) (A : Atoms 𝓤) (W : Given
   Post = walkOf 𝓤 H A read′.ended stayed (read′.clauses 𝓤 H A at-mem run) .post (((κ0, tt), (q0, tt), tt, x, at), tt)
 
   abbrev found : Decoded
-  found = readAt (now s) i 
+  found = readAt (now s) i
 
   abbrev after : Scrap → Decoded
-  after c = readAt (now (c .bytes)) (c .at) 
+  after c = readAt (now (c .bytes)) (c .at)
 
   -- the struct's type as a local of a body has it
   abbrev αᵉ : NamedLft
@@ -141,7 +141,7 @@ module _ {M : Type 1} (𝓤 : URA M) (H : Heap 𝓤) (A : Atoms 𝓤) (W : Given
         land ! (from ! (stop !)) (init ! 10 refl (EL.lawful DecodedT.the-type DecodedT′.the-laws 𝓤 H A W tt .typed r _ is′ .0)) $
         returns ! (look ! 10 refl) $ forget ! 10 refl $ forget ! 8 refl $ forget ! 6 refl $ forget ! 4 refl $
         move ! (10 ∷ 11 ∷ []) $ free1 ! $ move ! (8 ∷ 9 ∷ []) $ free1 ! $ move ! (6 ∷ 7 ∷ []) $ free1 ! $ move ! (4 ∷ 5 ∷ []) $ free1 ! $ free0 ! $
-        keep ! (0 ∷ 1 ∷ 2 ∷ []) $ by ! (exits r u (e′ ∙ (ap (λ (y : RefT (List ℕ)). readAt (now y) (c .at) ) (e .0) ∙ ap (λ (m : ℕ). readAt (now s) m ) (e .1))))))))))))))))
+        keep ! (0 ∷ 1 ∷ 2 ∷ []) $ by ! (exits r u (e′ ∙ (ap (λ (y : RefT (List ℕ)). readAt (now y) (c .at)) (e .0) ∙ ap (λ (m : ℕ). readAt (now s) m) (e .1))))))))))))))))
 
 module _ {M : Type 1} (𝓤 : URA M) (H : Heap 𝓤) (A : Atoms 𝓤) (W : Given 𝓤 H A) (at-mem : Memory → SProp 𝓤) (run : Routine → Fun 𝓤) where
   walks : (C : Calls 𝓤 H) (Λ : Loops 𝓤 H) → FmC 𝓤 H (W .laws) C → Triple 𝓤 (C #scrap·new) (new-called 𝓤 H A at-mem run) → Triple 𝓤 (C #scrap·next) (next-called 𝓤 H A at-mem run) → Walks 𝓤 H A read′.ended stayed (WpFn 𝓤 H C Λ code.function) (read′.clauses 𝓤 H A at-mem run)

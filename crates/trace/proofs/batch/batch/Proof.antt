@@ -45,9 +45,9 @@ returns c =
     let buffer = target (a .output) (a .answers .now) (a .lines .now) in
     let texts = recordsOf (a .count) (drop (a .place) (a .bytes .now)) in (
       (λ (map : Map).
-        let r = carriedBy (a .start) (a .words .now) map in
-        let still = stopped-still m r (c .if1 .taken) texts in
-        record { replay = still .0; put = still-put m (a .output) r texts buffer (a .start .filled) still }),
+          let r = carriedBy (a .start) (a .words .now) map in
+          let still = stopped-still m r (c .if1 .taken) texts in
+          record { replay = still .0; put = still-put m (a .output) r texts buffer (a .start .filled) still }),
       (s .pre .1 .1, refl),
     )
 
@@ -114,10 +114,10 @@ returns-2 c =
     let buffer = target (a .output) (a .answers .now) (a .lines .now) in
     let none = read-here (a .bytes .now) (o .at) (at-read p .read .ensures) ∙ p .before .before .before .enum-told .given .1 in (
       (λ (map : Map).
-        let turn = turn-broken m (a .output) (a .bytes .now) buffer texts (a .start .filled) (stateOf (o .words)) (o .remap) map (o .number) (o .inv .3 map)
-        (i .loop-test .taken) none (p .put-broken .ensures .0) in
-        let over = turn-over m (a .output) (a .bytes .now) buffer texts (a .start .filled) turn (stopped-still m _ refl _) in
-        batched m (a .output) texts map (a .start) (a .words .now) buffer _ (o .words) _ (e .if1 .left) over),
+          let turn = turn-broken m (a .output) (a .bytes .now) buffer texts (a .start .filled) (stateOf (o .words)) (o .remap) map (o .number) (o .inv .3 map)
+          (i .loop-test .taken) none (p .put-broken .ensures .0) in
+          let over = turn-over m (a .output) (a .bytes .now) buffer texts (a .start .filled) turn (stopped-still m _ refl _) in
+          batched m (a .output) texts map (a .start) (a .words .now) buffer _ (o .words) _ (e .if1 .left) over),
       (o .inv .2, broken-spared p),
     )
 
@@ -160,8 +160,8 @@ loop-again c =
       p .put-answered .ensures .1 ∙ o .inv .1,
       held-next m (stateOf (o .words)) step (o .inv .2) (g .step2 .ensures .0) (g .step2 .ensures .1),
       λ (map : Map).
-        turn-formed m (a .output) (a .bytes .now) buffer texts (a .start .filled) (stateOf (o .words)) (o .remap) map (o .number) (o .inv .3 map) (i .loop-test .taken) step
-            (o .inv .2) (g .step2 .ensures .0) (g .step2 .ensures .1) named (c .wrapping-add-u64 .ensures) (q .is-access .ensures) (p .put-answered .ensures .0),
+          turn-formed m (a .output) (a .bytes .now) buffer texts (a .start .filled) (stateOf (o .words)) (o .remap) map (o .number) (o .inv .3 map) (i .loop-test .taken) step
+          (o .inv .2) (g .step2 .ensures .0) (g .step2 .ensures .1) named (c .wrapping-add-u64 .ensures) (q .is-access .ensures) (p .put-answered .ensures .0),
     )
 
 -- both buffers are as long as they were
@@ -187,8 +187,8 @@ returns-3 c =
     let texts = recordsOf (a .count) (drop (a .place) (a .bytes .now)) in
     let buffer = target (a .output) (a .answers .now) (a .lines .now) in (
       (λ (map : Map).
-        let over = turn-over m (a .output) (a .bytes .now) buffer texts (a .start .filled) (o .inv .3 map) (none-still m (o .left) _ (drop (o .at) (a .bytes .now)) (c .loop-test .left)) in
-        batched m (a .output) texts map (a .start) (a .words .now) buffer _ (o .words) _ (e .if1 .left) over),
+          let over = turn-over m (a .output) (a .bytes .now) buffer texts (a .start .filled) (o .inv .3 map) (none-still m (o .left) _ (drop (o .at) (a .bytes .now)) (c .loop-test .left)) in
+          batched m (a .output) texts map (a .start) (a .words .now) buffer _ (o .words) _ (e .if1 .left) over),
       (o .inv .2, o .inv .1),
     )
 

@@ -115,8 +115,8 @@ returns c =
     let a = start o .args in
     let size = sized (start o) in (
       (λ (map : Map).
-        fed-by (memoryAt (a .memory .now) (a .base)) (a .output) (a .reader) map (a .room) (a .scrap .now) (a .words .now) (target (a .output) (a .answers .now) (a .lines .now)) size
-        (h .words-can-hold .result) (o .before .capped .ensures) (o .«open» .ensures) (b .batch .ensures .0 map) (w .wholes .ensures) (t .batch2 .ensures .0 map) (c .close .ensures)),
+          fed-by (memoryAt (a .memory .now) (a .base)) (a .output) (a .reader) map (a .room) (a .scrap .now) (a .words .now) (target (a .output) (a .answers .now) (a .lines .now)) size
+          (h .words-can-hold .result) (o .before .capped .ensures) (o .«open» .ensures) (b .batch .ensures .0 map) (w .wholes .ensures) (t .batch2 .ensures .0 map) (c .close .ensures)),
       t .batch2 .ensures .1 .1 ∙ b .batch .ensures .1 .1,
     )
 
