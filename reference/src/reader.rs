@@ -77,6 +77,11 @@ impl Reader {
         self.count
     }
 
+    /// Whether a record was broken.
+    pub fn has_stopped(&self) -> bool {
+        self.stopped
+    }
+
     /// Whether the next byte would be the last of its record.
     pub fn awaits_last(&self) -> bool {
         !self.stopped && self.count == MOST_CARRIED
