@@ -53,10 +53,11 @@ impl Case {
     }
 }
 
-pub const FEEDS: [Class<Case>; 32] = [
+pub const FEEDS: [Class<Case>; 33] = [
     feed("of nothing", 15, |case| case.scrap == 0),
     feed("of one byte", 15, |case| case.scrap == 1),
     feed("of 1 KiB or more", 200, |case| case.scrap >= 1024),
+    feed("of 48 KiB or more", 100_000, |case| case.scrap >= 48 << 10),
     feed("with no room", 10, |case| case.room == 0),
     feed("with room to spare", 5, |case| case.account.answers.len() < case.room),
     feed("cut short", 20, Case::is_cut_short),

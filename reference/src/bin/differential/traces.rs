@@ -22,11 +22,15 @@ pub struct Trace {
     pub memories: Vec<Memory>,
 }
 
+/// Of the traces that are not short, one in so many is long.
+const LONG: u64 = 128;
+
 pub fn trace(random: &mut Random) -> Trace {
     let paging = random.once_in(3).then(|| generate::paging(random));
     let lent = start(random, paging.as_ref());
     let memories = memories(random, &lent);
     let records = match random.below(16) {
+        0 if random.once_in(LONG) => 1000 + random.index(2000),
         0 => random.index(150),
         1 | 2 => random.index(40),
         _ => random.index(12),
