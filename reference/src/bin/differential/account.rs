@@ -23,6 +23,8 @@ pub struct Account {
     pub flaw: Option<Flaw>,
     /// Whether a reset followed on refusal 3.
     pub healed: bool,
+    /// Whether a step was a reset.
+    pub was_reset: bool,
 }
 
 impl Account {
@@ -39,6 +41,7 @@ impl Account {
             made_anew: false,
             flaw: None,
             healed: false,
+            was_reset: false,
         };
         if !account.stopped {
             account.read(kept, scrap, room);
@@ -69,11 +72,17 @@ impl Account {
         let next = Step::from_words(number, a, b).expect("a step there is");
         let before = self.hart;
         let answer = step(&mut self.hart, &mut self.map, kept.lent.memory(), next);
-        let registers = |hart: &Hart| (hart.pmpcfg, hart.pmpaddr);
-        self.made_anew |= next == Step::Reset || registers(&before) != registers(&self.hart);
+        self.was_reset |= next == Step::Reset;
+        self.made_anew |= next == Step::Reset || protection(&before) != protection(&self.hart);
         self.healed |= next == Step::Reset && !before.can_hold() && self.refused(Refusal::State);
         self.answers.push(answer.words());
         self.number = self.number.wrapping_add(1);
+    }
+
+    /// Whether protection registers were changed and are what they were.
+    pub fn is_changed_back(&self, kept: &Kept) -> bool {
+        let start = Hart::from_words(&kept.lent.hart);
+        self.made_anew && !self.was_reset && protection(&start) == protection(&self.hart)
     }
 
     /// Whether an answer is this refusal.
@@ -88,4 +97,9 @@ impl Account {
         let [count, written] = [self.left.len(), self.answers.len()].map(|number| number as u64);
         (carried, [count, self.number, u64::from(self.stopped), written])
     }
+}
+
+/// The protection registers.
+fn protection(hart: &Hart) -> ([u8; 16], [u64; 16]) {
+    (hart.pmpcfg, hart.pmpaddr)
 }

@@ -53,7 +53,7 @@ impl Case {
     }
 }
 
-pub const FEEDS: [Class<Case>; 33] = [
+pub const FEEDS: [Class<Case>; 34] = [
     feed("of nothing", 15, |case| case.scrap == 0),
     feed("of one byte", 15, |case| case.scrap == 1),
     feed("of 1 KiB or more", 200, |case| case.scrap >= 1024),
@@ -96,6 +96,9 @@ pub const FEEDS: [Class<Case>; 33] = [
     feed("with refusal 2", 100, |case| case.account.refused(Refusal::Argument)),
     feed("with refusal 13", 250, |case| case.account.refused(Refusal::Memory)),
     feed("with the map made anew", 40, |case| case.account.made_anew),
+    feed("with its registers changed and changed back", 400, |case| {
+        case.account.is_changed_back(&case.kept)
+    }),
     feed("with another map handed back", 20, Case::keeps_other_map),
 ];
 

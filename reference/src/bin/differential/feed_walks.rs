@@ -195,11 +195,13 @@ fn walk_lengths(sizes: &Sizes) -> Result<u64, Difference> {
 }
 
 /// Every kind of word for the count, the number, whether the reader has stopped, and what
-/// stands where the answers are counted.
+/// stands where the answers are counted, of readers that have stopped and of others.
 fn walk_places(sizes: &Sizes) -> Result<u64, Difference> {
-    let feeds = sizes.walks * PLACE_WORDS as u64 * WORDS;
+    let feeds = sizes.walks * 2 * PLACE_WORDS as u64 * WORDS;
     Stage::new("feeds with any place", sizes, feeds).run(|random, case| {
         let mut kept = fresh(random);
+        kept.place[2] = case % 2;
+        let case = case / 2;
         kept.place[case as usize % PLACE_WORDS] = word(case / PLACE_WORDS as u64 % WORDS);
         compare_left(&kept.place)?;
         if kept.place[2] > 1 {

@@ -2,6 +2,7 @@
 
 use std::rc::Rc;
 
+use reference::csr::number::{PMPADDR0, PMPCFG0, PMPCFG2};
 use reference::generate::Paging;
 use reference::random::Random;
 use reference::{
@@ -21,6 +22,9 @@ pub struct Trace {
     pub bytes: Vec<u8>,
     pub memories: Vec<Memory>,
 }
+
+/// The word of pmpcfg0 in a hart; pmpcfg2 and the pmpaddr registers follow.
+const CONFIGURATION: usize = 23;
 
 /// Of the traces that are not short, one in so many is long.
 const LONG: u64 = 128;
@@ -94,10 +98,17 @@ fn records_for(
 ) -> Vec<u8> {
     let mut lent = start.clone();
     let mut bytes = Vec::with_capacity(RECORD_LENGTH * (records + 1));
+    let mut back = None;
     for _ in 0..records {
-        let words = match paging {
-            Some(paging) if !random.once_in(4) => paging.step(random),
+        let words = match (back.take(), paging) {
+            (Some(back), _) => back,
+            (None, Some(paging)) if !random.once_in(4) => paging.step(random),
             _ if random.once_in(16) => [0, 0, 0],
+            _ if random.once_in(16) => {
+                let [there, again] = there_and_back(random, &lent);
+                back = Some(again);
+                there
+            }
             _ => random_step(random, &lent),
         };
         let words = used(words);
@@ -105,6 +116,14 @@ fn records_for(
         bytes.extend(write_record(words));
     }
     bytes
+}
+
+/// Another value for a protection register, and then the one that it has.
+fn there_and_back(random: &mut Random, lent: &Lent) -> [[u64; STEP_WORDS]; 2] {
+    let place = random.index(18);
+    let number = [PMPCFG0, PMPCFG2].get(place).copied().unwrap_or(PMPADDR0 + place as u64 - 2);
+    let held = lent.hart[CONFIGURATION + place];
+    [[1, number, held ^ 1 << random.below(8)], [1, number, held]]
 }
 
 /// The same step with 0 in the arguments that it does not use.
