@@ -38,6 +38,7 @@
  *   3 0 0 entry         granted
  *   4 cause mode entry  trapped, with the destination mode
  *   5 number            refused
+ *   5 8 record          refused, with the number of a broken record (of a feed)
  *   6 cause 0 entry     fault (of a query)
  * The entry is the one that decided on the access, 0 to 15, or 16 for none: that
  * of the last check, be it of the access or of a page-table read. A page fault, an
