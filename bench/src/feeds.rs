@@ -91,10 +91,17 @@ impl Feeds {
         Fed(sum, place[1], capi::left(&place))
     }
 
-    /// All must answer and leave the same.
+    /// All must answer and leave the same, also where a record is broken.
     pub fn compare(&self) -> Result<(), String> {
-        let records = self.trace.len() / RECORD_LENGTH;
-        for records in [records, 5_000] {
+        let mut damaged = self.trace[..self.trace.len() / 4].to_vec();
+        let middle = damaged.len() / 2;
+        damaged[middle] = b'x';
+        self.same()?;
+        Feeds { trace: damaged }.same()
+    }
+
+    fn same(&self) -> Result<(), String> {
+        for records in [self.trace.len() / RECORD_LENGTH, 5_000] {
             let wanted = self.byte_by_byte(records);
             let found = [self.by_records(records), self.by_product(records)];
             if found != [wanted; 2] {
