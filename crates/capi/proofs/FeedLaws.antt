@@ -1,8 +1,8 @@
 -- A reader in slices, and what a feed by them leaves. Assumes nothing.
 use Prim.Native.Nat.{ℕ, _/_, _%_}
-use mathlib.Core.Path.{_≡_, refl, sym, ap, subst, _∙_}
+use mathlib.Core.Path.{_≡_, refl, ap, subst, _∙_}
 use mathlib.Core.Bool.{Bool, true, false, cond, _&&_, false≢true}
-use mathlib.Core.List.{List, [], _∷_, _++_, append-nil}
+use mathlib.Core.List.{List, _++_, append-nil}
 use native.Mathlib.Omega.{arith}
 use lib.Dec.{eqb, leb}
 use lib.ListN.{length, getD, take, drop, drop-of-length-le}
@@ -11,22 +11,20 @@ use borrow.Author.Tests.{eqb-true}
 use Rattle.bits.proofs.Conjunction.{both}
 use Rattle.bits.specs.Lists.{Words}
 use Rattle.paging.specs.Memory.{Memory}
-use Rattle.state.specs.declared.State.{State}
-use Rattle.state.specs.Words.{wordsOf, stateOf}
+use Rattle.state.specs.Words.{stateOf}
 use Rattle.state.specs.Slices.{loadedPmp}
 use Rattle.state.proofs.Back.{state-words}
 use Rattle.state.proofs.SliceLaws.{pmp-loaded}
-use Rattle.map.specs.declared.Map.{Map}
 use Rattle.map.specs.MapWords.{mapOfWords, mapWords}
 use Rattle.hart.specs.Steps.{mapFor}
 use Rattle.trace.specs.declared.Reader.{Reader}
 use Rattle.trace.specs.declared.Progress.{Progress}
 use Rattle.trace.specs.declared.Fed.{Fed}
-use Rattle.trace.specs.Feeding.{FeedsWords, fed, feedWords}
+use Rattle.trace.specs.Feeding.{FeedsWords}
 use Rattle.trace.specs.Parts.{remade}
 use Rattle.trace.proofs.FeedLaws.{fed-value}
 use Rattle.capi.specs.Calls.{hartOf, fits, misfit}
-use Rattle.capi.specs.Feeds.{isPlace, readerIn, placeOf, feedable, FeedLeft, leftByFeed, feedCall}
+use Rattle.capi.specs.Feeds.{isPlace, readerIn, placeOf, feedable, FeedLeft, feedCall}
 use Rattle.capi.proofs.CallLaws.{fitting, chosen-map}
 
 -- bytes copied over all of a slice

@@ -13,12 +13,12 @@ use Rattle.memory_text.specs.MemoryText.{textOf, isMemoryText, readMemory, stor
 use Rattle.memory_text.proofs.Laws.{round-trip, read-back}
 use Rattle.trace.specs.declared.Session.{Session}
 use Rattle.trace.specs.declared.Written.{Written}
-use Rattle.trace.specs.Sessions.{fedPiece, pieceRoom, afterPiece, resetSession, textSession}
+use Rattle.trace.specs.Sessions.{fedPiece, pieceRoom, afterPiece, resetSession}
 use Rattle.trace.proofs.SessionLaws.{pieces-none, pieces-more}
 use Rattle.trace.proofs.Wholeness.{pieces-still}
 use Rattle.replay_stream.specs.declared.Stream.{Stream}
 use Rattle.replay_stream.specs.Streams.{OnePiece, Going, Streamed, Begun, FromFile, mostPieces}
-use Rattle.replay_stream.specs.Streams.{isNone, startNamed, memoryOf, memoryNamed, Lending, FromPaths}
+use Rattle.replay_stream.specs.Streams.{isNone, memoryOf, memoryNamed, Lending, FromPaths}
 
 module _ (m : Memory) where
   -- the buffer has room for the lines of a piece

@@ -1,8 +1,7 @@
 -- The words of an answer are its numbers, where it tells no interrupt. Assumes nothing.
-use Prim.Native.Nat.{ℕ, _+_, _%_, _^_}
+use Prim.Native.Nat.{ℕ}
 use mathlib.Core.Path.{_≡_, refl, ap}
-use native.Mathlib.Omega.{arith}
-use mathlib.Core.List.{List, [], _∷_}
+use mathlib.Core.List.{[], _∷_}
 use Rattle.steps.specs.declared.Trap.{Trap}
 use Rattle.steps.specs.declared.Trap.the-variants.{Exception, Interrupt}
 use Rattle.steps.specs.declared.Answer.{Answer}

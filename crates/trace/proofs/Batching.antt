@@ -38,7 +38,7 @@ use Rattle.trace.specs.Replies.{Reply, Answered, Broken, written, textBy
 use Rattle.trace.specs.Reading.{Replay, afterStep, afterDecoded, replyTo, afterRecord, recordReplies}
 use Rattle.trace.specs.Batches.{recordsOf, afterRecords, recordsReplies, carried, carriedBy, Batched}
 use Rattle.trace.proofs.Writing.{sets-append}
-use Rattle.trace.proofs.Replying.{written-append, text-length}
+use Rattle.trace.proofs.Replying.{text-length}
 
 -- the record at a place
 abbrev recordAt : List ℕ → ℕ → List ℕ

@@ -1,20 +1,19 @@
--- Bytes in a row: after refusal 8, short of a record, a record's 60, and whole records. Assumes nothing.
-use Prim.Native.Nat.{ℕ, zero, suc, _+_, _*_, _≤_, _<_}
+-- Bytes in a row: short of a record, a record's 60, and whole records. Assumes nothing.
+use Prim.Native.Nat.{ℕ, zero, suc, _+_, _*_, _≤_}
 use mathlib.Core.Path.{_≡_, refl, sym, ap, _∙_}
 use mathlib.Core.Bool.{Bool, true, false, cond}
 use mathlib.Core.List.{List, [], _∷_, _++_, append-assoc, append-nil}
 use native.Mathlib.Omega.{arith}
-use lib.Dec.{ltb}
 use lib.ListN.{length, take, drop, length-append, length-take, length-drop}
-use lib.Seq.{append-snoc, take-add, drop-drop, length-take-le}
-use borrow.Author.Tests.{lt-ltb, le-ltb}
+use lib.Seq.{take-add, length-take-le}
+use borrow.Author.Tests.{le-ltb}
 use Rattle.bits.specs.Fold.{fold, outputs}
 use Rattle.bits.proofs.FoldLaws.{fold-append, outputs-append}
 use Rattle.paging.specs.Memory.{Memory}
-use Rattle.records.specs.Records.{readStep}
 use Rattle.trace.specs.Replies.{Reply}
-use Rattle.trace.specs.Reading.{Replay, Reading, reading, afterDecoded, replyTo, afterRecord, recordReplies, afterByte, byteReplies, afterBytes, repliesTo}
+use Rattle.trace.specs.Reading.{Replay, Reading, reading, afterRecord, recordReplies, afterByte, byteReplies, afterBytes, repliesTo}
 use Rattle.trace.specs.Batches.{recordsOf, afterRecords, recordsReplies}
+use Rattle.trace.proofs.OneByte.{byte-short, bytes-ignored}
 use Rattle.trace.proofs.Readers.{Kept}
 
 module _ (m : Memory) where
@@ -29,33 +28,9 @@ module _ (m : Memory) where
     outputs-append (afterByte m) (byteReplies m) x xs ys ∙ (λ j. f .1 j ++ repliesTo m (f .0 j) ys) ∙ ap (λ (l : List Reply). rs ++ l) (g .1),
   )
 
-  -- ---- after refusal 8 every byte is ignored
-
-  module _ (x : Reading) (h : x .replay .stopped ≡ true) where
-    byte-still : (b : ℕ) → (afterByte m x b ≡ x) × (byteReplies m x b ≡ [])
-    unfolding afterByte byteReplies
-    byte-still b = (
-      (λ j. cond (h j) x
-          (cond (ltb (length (x .left)) 59) (reading (x .replay) (x .left ++ b ∷ [])) (reading (afterRecord m (x .replay) (x .left ++ b ∷ [])) []))),
-      (λ j. cond (h j) [] (cond (ltb (length (x .left)) 59) [] (recordReplies m (x .replay) (x .left ++ b ∷ [])))),
-    )
-
-    pub bytes-still : (bytes : List ℕ) → Read x bytes x []
-    unfolding fold outputs
-    bytes-still [] = (refl, refl)
-    bytes-still (b ∷ bytes) =
-        let e = byte-still b in
-        let r = bytes-still bytes in
-        ((λ j. afterBytes m (e .0 j) bytes) ∙ r .0, (λ j. e .1 j ++ repliesTo m (e .0 j) bytes) ∙ r .1)
-
-  -- ---- before it
+  -- ---- before refusal 8
 
   module _ (r : Replay) (h : r .stopped ≡ false) where
-    -- a byte that does not complete a record is kept
-    byte-short : (left : List ℕ) (b : ℕ) → length left < 59 → (afterByte m (reading r left) b ≡ reading r (left ++ b ∷ [])) × (byteReplies m (reading r left) b ≡ [])
-    unfolding afterByte byteReplies
-    byte-short left b l = (rw (h, lt-ltb (length left) 59 l), rw (h, lt-ltb (length left) 59 l))
-
     -- with the 60th the record is judged
     byte-last : (left : List ℕ) (b : ℕ) → 59 ≤ length left
         → (afterByte m (reading r left) b ≡ reading (afterRecord m r (left ++ b ∷ [])) []) × (byteReplies m (reading r left) b ≡ recordReplies m r (left ++ b ∷ []))
@@ -66,7 +41,7 @@ module _ (m : Memory) where
     unfolding fold outputs
     bytes-short left [] l = (ap (reading r) (sym (append-nil left)), refl)
     bytes-short left (b ∷ bytes) l =
-        let e = byte-short left b (omega arith) in
+        let e = byte-short m (reading r left) b h (omega arith) in
         let rest = bytes-short (left ++ b ∷ []) bytes (omega (arith, length-append left (b ∷ []))) in (
           (λ j. afterBytes m (e .0 j) bytes) ∙ rest .0 ∙ ap (reading r) (append-assoc left (b ∷ []) bytes),
           (λ j. e .1 j ++ repliesTo m (e .0 j) bytes) ∙ rest .1,
@@ -78,7 +53,7 @@ module _ (m : Memory) where
     record-going left [] k l = absurd (omega arith)
     record-going left (b ∷ []) k l = let e = byte-last left b (omega arith) in (e .0, ap (λ (rs : List Reply). rs ++ []) (e .1) ∙ append-nil (recordReplies m r (left ++ b ∷ [])))
     record-going left (b ∷ c ∷ bytes) k l =
-        let e = byte-short left b (omega arith) in
+        let e = byte-short m (reading r left) b h (omega arith) in
         let more = length-append left (b ∷ []) in
         let rest = record-going (left ++ b ∷ []) (c ∷ bytes) (omega (arith, more)) (omega (arith, more)) in
         let text = append-assoc left (b ∷ []) (c ∷ bytes) in (
@@ -99,7 +74,7 @@ module _ (m : Memory) where
     where
       go : (s : Bool) → r .stopped ≡ s → Read (reading r left) bytes (reading (afterRecord m r (left ++ bytes)) []) (recordReplies m r (left ++ bytes))
       go true h =
-          let still = bytes-still (reading r left) h bytes in
+          let still = bytes-ignored m (reading r left) h bytes in
           let e = record-passed r (left ++ bytes) h in
           (still .0 ∙ (λ j. reading (sym (e .0) j) (k .none h j)), still .1 ∙ sym (e .1))
       go false h = record-going r h left bytes (k .short) l
@@ -112,7 +87,7 @@ module _ (m : Memory) where
   bytes-ending r left bytes k l = go (r .stopped) refl
     where
       go : (s : Bool) → r .stopped ≡ s → Read (reading r left) bytes (cond s (reading r []) (reading r (left ++ bytes))) []
-      go true h = let still = bytes-still (reading r left) h bytes in (still .0 ∙ ap (reading r) (k .none h), still .1)
+      go true h = let still = bytes-ignored m (reading r left) h bytes in (still .0 ∙ ap (reading r) (k .none h), still .1)
       go false h = bytes-short r h left bytes l
 
   unread-kept : (r : Replay) → Kept (reading r [])

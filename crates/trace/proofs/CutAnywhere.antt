@@ -10,7 +10,6 @@ use lib.Seq.{take-at, take-length}
 use Rattle.bits.specs.Fold.{fold, outputs}
 use Rattle.bits.proofs.FoldLaws.{fold-append, outputs-append}
 use Rattle.paging.specs.Memory.{Memory, memoryAt}
-use Rattle.trace.specs.declared.Reader.{Reader}
 use Rattle.trace.specs.Replies.{Reply}
 use Rattle.trace.specs.Reading.{Replay, Reading, reading, afterRecord, recordReplies, afterByte, byteReplies, afterBytes, repliesTo}
 use Rattle.trace.specs.Feeding.{readingOf, answerable, afterFeed, feedReplies, takenBy, fed}

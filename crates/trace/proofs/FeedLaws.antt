@@ -3,7 +3,7 @@ use Prim.Native.Nat.{ℕ, zero, suc, _+_, _-_, _*_, _/_, _≤_, min}
 use mathlib.Core.Path.{_≡_, refl, sym, ap, subst, _∙_}
 use mathlib.Core.Bool.{Bool, true, false, cond, _||_}
 use native.Mathlib.Nat.{zero-add}
-use mathlib.Core.List.{List, [], _∷_, _++_, append-nil}
+use mathlib.Core.List.{List, [], _++_, append-nil}
 use native.Mathlib.Omega.{arith}
 use lib.Dec.{eqb, ltb}
 use lib.ListN.{length, take, drop, replicate, length-append, length-take}
@@ -24,7 +24,6 @@ use Rattle.trace.specs.declared.Cursor.{Cursor}
 use Rattle.trace.specs.declared.Opening.{Opening}
 use Rattle.trace.specs.declared.Progress.{Progress}
 use Rattle.trace.specs.declared.Fed.{Fed}
-use Rattle.trace.specs.Buffers.{Put}
 use Rattle.trace.specs.Replies.{Reply, replyNumbers, written, textBy, widthOf}
 use Rattle.trace.specs.Reading.{Replay, Reading, reading, afterRecord, recordReplies}
 use Rattle.trace.specs.Feeding.{leftOf, readingOf, readerOf, afterFeed, feedReplies, takenBy, FedBy, fed, feedWords}

@@ -1,27 +1,26 @@
 -- A scrap read in its parts is read byte by byte. Assumes nothing.
-use Prim.Native.Nat.{ℕ, zero, suc, _+_, _-_, _*_, _/_, _≤_, _<_, min}
+use Prim.Native.Nat.{ℕ, zero, suc, _+_, _-_, _*_, _/_, _≤_, min}
 use mathlib.Core.Path.{_≡_, refl, sym, ap, _∙_}
 use mathlib.Core.Bool.{Bool, true, false, cond, _||_, false≢true}
-use mathlib.Core.List.{List, [], _∷_, _++_, append-nil}
+use mathlib.Core.List.{List, [], _++_}
 use native.Mathlib.Omega.{arith}
 use native.Mathlib.Nat.{zero-add}
 use lib.Dec.{eqb, ltb}
-use lib.ListN.{length, take, drop, replicate, length-append, length-take, length-drop, length-replicate}
-use lib.Seq.{sets, take-all, take-add, drop-drop}
+use lib.ListN.{length, take, drop, length-take, length-drop}
+use lib.Seq.{take-all, take-add, drop-drop}
 use borrow.Author.Tests.{ltb-true, ltb-false, eqb-true, eqb-false, ne-eqb}
 use Rattle.bits.specs.Fold.{fold, outputs}
 use Rattle.bits.proofs.Conjunction.{neither}
 use Rattle.paging.specs.Memory.{Memory}
-use Rattle.trace.specs.declared.Opening.{Opening}
 use Rattle.trace.specs.Replies.{Reply}
 use Rattle.trace.specs.Reading.{Replay, Reading, reading, afterRecord, recordReplies, afterBytes, repliesTo}
 use Rattle.trace.specs.Feeding.{answerable, afterFeed, feedReplies, takenBy}
 use Rattle.trace.specs.Batches.{recordsOf, afterRecords, recordsReplies}
-use Rattle.trace.specs.Parts.{unopened, openingOf, wholesIn, furtherIn}
-use Rattle.trace.proofs.Readers.{Kept, front-sets}
-use Rattle.trace.proofs.Bytes.{Read, read-both, bytes-still, bytes-record, bytes-ending, bytes-body, ending}
-use Rattle.trace.proofs.Batching.{stopped-still}
-use Rattle.trace.proofs.Parts.{further-within, further-fits, Body, body-numbers}
+use Rattle.trace.specs.Parts.{unopened, wholesIn, furtherIn}
+use Rattle.trace.proofs.Readers.{Kept}
+use Rattle.trace.proofs.OneByte.{bytes-ignored}
+use Rattle.trace.proofs.Bytes.{Read, read-both, bytes-record, bytes-ending, bytes-body, ending}
+use Rattle.trace.proofs.Parts.{further-fits, Body, body-numbers}
 
 -- bytes beyond the end are none
 take-least : (k e : ℕ) (s : List ℕ) → e ≡ min k (length s) → take k s ≡ take e s
@@ -77,7 +76,7 @@ module _ (m : Memory) (r : Replay) (room : ℕ) (scrap : List ℕ) where
   pub stopped-parts : (last : Replay) (more : List ℕ) (end : ℕ) (replies : List Reply) → r .stopped ≡ true → last ≡ r → replies ≡ []
       → Parted m r [] room scrap last more end replies
   stopped-parts last more end replies h e n =
-      let still = bytes-still m (reading r []) h (answerable (reading r []) room scrap) in
+      let still = bytes-ignored m (reading r []) h (answerable (reading r []) room scrap) in
       let stops = ap (λ (y : Reading). y .replay .stopped) (still .0) ∙ h in
       let ends : last .stopped ≡ true = ap (λ (y : Replay). y .stopped) e ∙ h in record {
         after = still .0 ∙ (λ j. reading (sym e j) []) ∙ (λ j. cond (sym ends j) (reading last []) (reading last more));

@@ -14,7 +14,7 @@ use Rattle.steps.specs.declared.Decoded.the-variants.{Formed, Nothing}
 use Rattle.paging.specs.Memory.{Memory}
 use Rattle.records.specs.Records.{readStep}
 use Rattle.trace.specs.Replies.{Reply, Broken}
-use Rattle.trace.specs.Reading.{Replay, Reading, reading, stoppedAt, afterDecoded, replyTo, afterRecord, recordReplies, afterByte, byteReplies, afterBytes, repliesTo}
+use Rattle.trace.specs.Reading.{Reading, reading, stoppedAt, afterDecoded, replyTo, afterRecord, recordReplies, afterByte, byteReplies, afterBytes, repliesTo}
 
 module _ (m : Memory) where
   -- ---- one byte
@@ -66,17 +66,6 @@ module _ (m : Memory) where
   -- a reading that goes on had not stopped
   went-on : (x : Reading) (bs : List ℕ) → x .replay .stopped ≡ true → afterBytes m x bs .replay .stopped ≡ false → ⊥
   went-on x bs h e = false≢true (sym e ∙ ap (λ (y : Reading). y .replay .stopped) (bytes-ignored x h bs .0) ∙ h)
-
-  -- ---- how many answers
-
-  pub answers-bound : (bs : List ℕ) (x : Reading) → 60 * length (repliesTo m x bs) ≤ length (x .left) + length bs
-  unfolding outputs
-  answers-bound [] x = omega arith
-  answers-bound (b ∷ bs) x =
-      byte-cases x b (λ y r. 60 * length (r ++ repliesTo m y bs) ≤ length (x .left) + length (b ∷ bs))
-      (λ p. omega (arith, answers-bound bs x))
-      (λ p l. omega (arith, answers-bound bs (reading (x .replay) (x .left ++ b ∷ [])), length-append (x .left) (b ∷ [])))
-      (λ p l d. omega (arith, answers-bound bs (reading (afterDecoded m (x .replay) d) [])))
 
   -- ---- what is left over
 

@@ -1,12 +1,11 @@
 -- The numbers of the parts in which a scrap is read. Assumes nothing.
 use Prim.Native.Nat.{ℕ, _+_, _-_, _*_, _/_, _≤_, _<_, min}
-use mathlib.Core.Path.{_≡_, refl, sym, ap, _∙_}
-use mathlib.Core.Bool.{Bool, true, false, cond, _||_}
+use mathlib.Core.Path.{_≡_, refl}
+use mathlib.Core.Bool.{Bool, true, false, cond}
 use native.Mathlib.Omega.{arith}
 use lib.Dec.{eqb, ltb}
-use borrow.Author.Tests.{ltb-true, ltb-false, eqb-true, eqb-false}
-use Rattle.bits.proofs.Conjunction.{neither}
-use Rattle.trace.specs.Parts.{unopened, wholesIn, furtherIn}
+use borrow.Author.Tests.{ltb-true, ltb-false}
+use Rattle.trace.specs.Parts.{wholesIn, furtherIn}
 
 pub further-within : (rest kept : ℕ) → furtherIn rest kept ≤ rest
 further-within rest kept = go (ltb (59 - kept) rest) refl

@@ -1,5 +1,5 @@
 -- A reader and what it stands for: fewer than 60 bytes are carried, none after refusal 8, and a reader made of a reading is read as that. Assumes nothing.
-use Prim.Native.Nat.{ℕ, _+_, _≤_, _<_, min}
+use Prim.Native.Nat.{ℕ, _+_, _≤_, min}
 use mathlib.Core.Path.{_≡_, refl, sym, ap, _∙_}
 use mathlib.Core.Bool.{Bool, true, false, cond, false≢true}
 use mathlib.Core.List.{List, [], _∷_, _++_}
@@ -13,7 +13,7 @@ use Rattle.paging.specs.Memory.{Memory}
 use Rattle.map.specs.declared.Map.{Map}
 use Rattle.hart.specs.declared.Hart.{Hart}
 use Rattle.trace.specs.declared.Reader.{Reader}
-use Rattle.trace.specs.Reading.{Replay, Reading, reading, afterRecord, afterByte, afterBytes}
+use Rattle.trace.specs.Reading.{Reading, reading, afterRecord, afterByte, afterBytes}
 use Rattle.trace.specs.Feeding.{leftOf, readingOf, readerOf}
 
 -- a text at the front of zeros

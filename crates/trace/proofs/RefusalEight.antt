@@ -19,11 +19,10 @@ use Rattle.steps.specs.declared.Step.{Step}
 use Rattle.steps.specs.Decode.{decoded, isAccess}
 use Rattle.steps.proofs.NumberLaws.{number-formed}
 use Rattle.paging.specs.Memory.{Memory}
-use Rattle.hart.specs.declared.Stepped.{Stepped}
 use Rattle.records.specs.Records.{keys, recordOf, readRecord, ignoresFirst, ignoresSecond, unusedAreZero, recordStep, readStep}
 use Rattle.records.proofs.Back.{record-back}
 use Rattle.trace.specs.Replies.{Answered, Broken}
-use Rattle.trace.specs.Reading.{Replay, Reading, reading, afterDecoded, replyTo, afterByte, byteReplies}
+use Rattle.trace.specs.Reading.{Reading, reading, afterDecoded, replyTo, afterByte, byteReplies}
 use Rattle.trace.specs.RefusalEight.{Names, NamesNone, Completes, RefusalEight, WorkedRecords}
 use Rattle.trace.proofs.OneByte.{byte-ignored, byte-short, byte-full}
 

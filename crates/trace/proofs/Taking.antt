@@ -8,15 +8,15 @@ use lib.ListN.{length, take, drop, replicate, length-append, length-take, length
 use lib.Seq.{take-nil, length-sets}
 use Rattle.bits.proofs.FoldLaws.{fold-nil, outputs-nil}
 use Rattle.paging.specs.Memory.{Memory}
-use Rattle.trace.specs.declared.Fed.{Fed}
 use Rattle.trace.specs.declared.Reader.{Reader}
 use Rattle.trace.specs.Replies.{Reply}
-use Rattle.trace.specs.Reading.{Replay, Reading, reading, afterByte, byteReplies, afterBytes, repliesTo}
+use Rattle.trace.specs.Reading.{Reading, reading, afterByte, byteReplies, afterBytes, repliesTo}
 use Rattle.trace.specs.Feeding.{leftOf, readingOf, readerOf, answerable, afterFeed, feedReplies, takenBy, fed, leftCount}
 use Rattle.trace.specs.CutAnywhere.{Held, Feed, feeding, takenFrom, answersTo}
 use Rattle.trace.specs.Taking.{counting, Unmoved, Taking, Starting}
 use Rattle.trace.proofs.Readers.{Kept, reading-kept, bytes-kept, left-back}
-use Rattle.trace.proofs.OneByte.{bytes-ignored, answers-bound, left-behind, number-on, stops}
+use Rattle.trace.proofs.Counting.{replies-count}
+use Rattle.trace.proofs.OneByte.{bytes-ignored, left-behind, number-on, stops}
 use Rattle.trace.proofs.CutAnywhere.{front-taken}
 
 -- the count that is reported is that of the bytes left over
@@ -78,7 +78,7 @@ module _ (c : Held) (f : Feed) where
           )
 
   fits : length replies ≤ f .room
-  fits = omega (arith, answers-bound m front x, front-length, before-kept .short)
+  fits = omega (arith, replies-count m x front, front-length, before-kept .short)
 
   all-taken : after .replay .stopped ≡ true → takenBy m x (f .room) (f .scrap) ≡ length (f .scrap)
   all-taken p = λ j. cond (p j) (length (f .scrap)) (length front)

@@ -4,7 +4,7 @@ use mathlib.Core.Path.{_≡_, refl, sym, ap, _∙_}
 use mathlib.Core.Bool.{Bool, true, false, cond, not, _&&_, and-false}
 use mathlib.Core.List.{List, [], _∷_, _++_, append-assoc}
 use native.Mathlib.Omega.{arith}
-use lib.Dec.{eqb, ltb}
+use lib.Dec.{eqb}
 use lib.ListN.{length}
 use borrow.Author.Tests.{ne-eqb}
 use Rattle.bits.specs.Fold.{fold, outputs}
@@ -21,13 +21,13 @@ use Rattle.hart.specs.Saved.{readAnew}
 use Rattle.trace.specs.declared.Session.{Session}
 use Rattle.trace.specs.Answers.{refusedLine}
 use Rattle.trace.specs.Replies.{replyLine, written}
-use Rattle.trace.specs.Reading.{Reading, reading, afterRecord, recordReplies, afterByte, byteReplies, afterBytes, repliesTo}
+use Rattle.trace.specs.Reading.{Reading, afterByte, byteReplies, afterBytes, repliesTo}
 use Rattle.trace.specs.Feeding.{leftCount}
 use Rattle.trace.specs.Endings.{ending}
 use Rattle.trace.specs.Sessions.{resetSession, readSession, textSession, fullPiece, readingIn, continued, afterPiece, pieceLines, sessionEnding, afterPieces, piecesLines, allWritten}
 use Rattle.trace.specs.InPieces.{replayed, joined, AllFull, unread, begun, fromText, InPieces}
 use Rattle.trace.proofs.SavedTexts.{form-read}
-use Rattle.trace.proofs.Bytes.{bytes-still}
+use Rattle.trace.proofs.OneByte.{bytes-ignored}
 use Rattle.trace.proofs.Readers.{Kept, bytes-kept, reading-back}
 use Rattle.trace.proofs.Replying.{written-append}
 use Rattle.trace.proofs.SessionLaws.{session-kept, piece-still, piece-goes}
@@ -110,7 +110,7 @@ module _ (m : Memory) where
   module _ (x : Reading) (h : x .replay .stopped ≡ true) where
     replayed-stopped : (trace : List ℕ) → replayed m x trace ≡ endingOf x
     unfolding written
-    replayed-stopped trace = let e = bytes-still m x h trace in λ j. written replyLine (e .1 j) ++ endingOf (e .0 j)
+    replayed-stopped trace = let e = bytes-ignored m x h trace in λ j. written replyLine (e .1 j) ++ endingOf (e .0 j)
 
   -- ---- a trace cut anywhere
 

@@ -1,5 +1,5 @@
 -- The parts in which the code reads a scrap: the record that the carried bytes begin, whole records, and what is left behind them.
-use Prim.Native.Nat.{ℕ, _+_, _-_, _/_, min}
+use Prim.Native.Nat.{ℕ, _+_, _-_, _/_}
 use mathlib.Core.Bool.{Bool, true, false, cond, _||_}
 use mathlib.Core.List.{List, [], _++_}
 use lib.Dec.{eqb, ltb}

@@ -11,11 +11,10 @@ use Rattle.steps.specs.declared.Step.{Step}
 use Rattle.steps.specs.declared.Answer.the-variants.{Refused}
 use Rattle.steps.specs.Decode.{decoded, isAccess}
 use Rattle.paging.specs.Memory.{Memory}
-use Rattle.hart.specs.declared.Stepped.{Stepped}
 use Rattle.hart.specs.Steps.{stepped}
 use Rattle.records.specs.Records.{recordOf, ignoresFirst, ignoresSecond, readStep}
 use Rattle.trace.specs.Replies.{Answered, Broken}
-use Rattle.trace.specs.Reading.{Replay, Reading, reading, afterStep, stoppedAt, afterByte, byteReplies}
+use Rattle.trace.specs.Reading.{Reading, reading, afterStep, stoppedAt, afterByte, byteReplies}
 
 -- "three lines, `step=`, `a=`, `b=`, each with 16 lower-case hexadecimal digits and a line feed", a step number not above 17, and "unused arguments are 0"
 pub record Names (text : List ℕ) (step a b : ℕ) : Type 0 where

@@ -3,7 +3,7 @@ use Prim.Native.Nat.{ℕ}
 use mathlib.Core.Bool.{Bool}
 use mathlib.Core.List.{List, [], _∷_, _++_}
 use Rattle.steps.specs.declared.Answer.{Answer}
-use Rattle.steps.specs.Number.{answerInterrupt, answerNumbers}
+use Rattle.steps.specs.Number.{answerNumbers}
 use Rattle.trace.specs.declared.Output.{Output}
 use Rattle.trace.specs.declared.Output.the-variants.{Words, Lines}
 use Rattle.trace.specs.Answers.{answerLine, brokenLine}

@@ -5,7 +5,6 @@ use mathlib.Core.Bool.{true, false}
 use mathlib.Core.List.{[], _∷_, _++_}
 use lib.ListN.{length, take, drop}
 use Rattle.trace.specs.declared.Fed.{Fed}
-use Rattle.trace.specs.declared.Reader.{Reader}
 use Rattle.trace.specs.Replies.{Broken}
 use Rattle.trace.specs.Feeding.{leftOf, newReader, leftCount}
 use Rattle.trace.specs.CutAnywhere.{Held, Feed, feeding, takenFrom, answersTo}

@@ -9,9 +9,8 @@ use crate::feeding::read;
 use hart::Hart;
 use map::Map;
 ghost use mathlib.Core.Path.{_≡_};
-ghost use Prim.Native.Nat.{_/_, _≤_};
+ghost use Prim.Native.Nat.{_/_};
 ghost use lib.ListN.{length};
-ghost use lib.Seq.{sets};
 ghost use Rattle.paging.specs.Memory.{memoryAt};
 ghost use Rattle.trace.specs.Feeding.{newReader, leftCount, FeedsWords, fed, feedWords};
 

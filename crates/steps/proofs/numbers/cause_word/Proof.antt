@@ -1,4 +1,3 @@
-use mathlib.Core.Path.{_∙_}
 use borrow.Author.Needs.{needs}
 use Rattle.steps.proofs.numbers.cause_word.Statement.{statement}
 use Rattle.steps.proofs.numbers.cause_word.Tie as tie

@@ -1,12 +1,12 @@
-use Prim.Native.Nat.{ℕ, _+_, _-_, _≤_, min}
-use mathlib.Core.Path.{_≡_, refl, sym, ap, _∙_}
-use mathlib.Core.Bool.{true, false}
-use mathlib.Core.List.{List, [], _++_}
+use Prim.Native.Nat.{_+_, _-_, _≤_}
+use mathlib.Core.Path.{_≡_, _∙_}
+use mathlib.Core.Bool.{false}
+use mathlib.Core.List.{_++_}
 use native.Mathlib.Omega.{arith}
 use lib.ListN.{length, take, drop, replicate, length-append, length-take, length-drop}
 use lib.Seq.{sets}
 use borrow.Author.Needs.{needs}
-use Rattle.trace.specs.Parts.{furtherIn, carrying, progressed}
+use Rattle.trace.specs.Parts.{carrying, progressed}
 use Rattle.trace.proofs.Parts.{further-within, further-fits}
 use Rattle.trace.proofs.feeding.close.Statement.{statement}
 use Rattle.trace.proofs.feeding.close.Tie as tie

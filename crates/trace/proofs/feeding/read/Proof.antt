@@ -1,19 +1,17 @@
-use Prim.Native.Nat.{_+_, _-_, _*_, _≤_, min}
+use Prim.Native.Nat.{_+_, _-_, _*_, _≤_}
 use mathlib.Core.Path.{_≡_, refl, sym, ap, subst, _∙_}
 use mathlib.Core.List.{[]}
 use native.Mathlib.Omega.{arith}
-use lib.ListN.{length, drop}
+use lib.ListN.{length}
 use borrow.Author.Needs.{needs}
 use Rattle.map.specs.declared.Map.{Map}
-use Rattle.paging.specs.Memory.{Memory, memoryAt}
+use Rattle.paging.specs.Memory.{memoryAt}
 use Rattle.state.specs.Hold.{canHold}
 use Rattle.state.proofs.SliceLaws.{all-loaded}
 use Rattle.trace.specs.declared.Opening.{Opening}
-use Rattle.trace.specs.Replies.{widthOf, target, spared}
-use Rattle.trace.specs.Parts.{wholesIn}
+use Rattle.trace.specs.Replies.{target}
 use Rattle.trace.proofs.Parts.{wholes-fit}
-use Rattle.trace.proofs.Batching.{both-long}
-use Rattle.trace.proofs.FeedLaws.{Fitting, fitting, begin, batch-filled, room-left, fed-by}
+use Rattle.trace.proofs.FeedLaws.{Fitting, fitting, batch-filled, room-left, fed-by}
 use Rattle.trace.proofs.feeding.read.Statement.{statement}
 use Rattle.trace.proofs.feeding.read.Tie as tie
 

@@ -1,7 +1,5 @@
 use Prim.Native.Nat.{_/_}
-use mathlib.Core.Path.{_≡_}
 use borrow.Author.Tests.{eq-eqb, ne-eqb, lt-ltb, le-ltb}
-use borrow.Author.Needs.{needs}
 use Rattle.trace.proofs.feeding.wholes.Statement.{statement}
 use Rattle.trace.proofs.feeding.wholes.Tie as tie
 

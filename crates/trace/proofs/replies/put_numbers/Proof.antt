@@ -1,12 +1,11 @@
-use mathlib.Core.Path.{_≡_, refl, sym, _∙_}
-use mathlib.Core.List.{List, [], _∷_}
+use mathlib.Core.Path.{_≡_, refl, _∙_}
+use mathlib.Core.List.{[], _∷_}
 use lib.ListN.{getD}
 use borrow.Author.Needs.{needs}
 use Rattle.steps.specs.declared.Answer.{Answer}
 use Rattle.steps.specs.declared.Answer.the-variants.{Done, DoneValue, DoneFlag, Granted, Trapped, Refused}
 use Rattle.steps.specs.Number.{answerNumbers}
 use Rattle.steps.proofs.AnswerLaws.{words-are-numbers}
-use Rattle.trace.specs.Buffers.{Put}
 use Rattle.trace.proofs.replies.put_numbers.Statement.{statement}
 use Rattle.trace.proofs.replies.put_numbers.Tie as tie
 
