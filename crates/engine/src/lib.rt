@@ -8,6 +8,7 @@ mod runs;
 mod taking;
 
 pub use runs::run;
+pub use runs::step_named;
 pub use taking::step;
 
 // What is told of a step besides the words that it leaves: its answer, whether a hart can hold what is left, and whether the map has to be compiled

@@ -59,6 +59,23 @@ fn take_named(
     }
 }
 
+// The step that three numbers name, on the words of a hart, as `step` does it. Numbers that name none do nothing. What is passed on are numbers and slices: with two loops over steps in
+// one program, that of a run and that of a trace, it is compiled once and called by both.
+pub fn step_named(
+    words: &mut [u64; 43],
+    memory: &[u64],
+    base: u64,
+    held: bool,
+    number: u64,
+    a: u64,
+    b: u64,
+) -> Taken
+    ensures { λ r. ⌜ r ≡ namedTaken held (stateOf (now (words .entry))) (memoryAt (now (memory .entry)) base) (decoded number a b) ⌝ }
+    ensures { λ _. ⌜ stateOf (now (words .exit)) ≡ namedState held (stateOf (now (words .entry))) (memoryAt (now (memory .entry)) base) (decoded number a b) ⌝ }
+{
+    take_named(words, memory, base, held, number, a, b)
+}
+
 // All steps in order, each given what the one before left. A step has three words and its answer four. Gives whether the map has to be compiled anew.
 fn run_steps(
     words: &mut [u64],

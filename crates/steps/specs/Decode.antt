@@ -42,6 +42,11 @@ isAccess (Csr op number operand) = false
 isAccess (AccessStep access address size) = true
 isAccess (EventStep event) = false
 
+-- of the step that numbers name, if they name one
+abbrev pub accessNamed : Decoded → Bool
+accessNamed (Formed s) = isAccess s
+accessNamed Nothing = false
+
 -- a list with the step in front, where there is one
 abbrev pub prepended : Decoded → List Step → List Step
 prepended (Formed s) steps = s ∷ steps

@@ -1,12 +1,13 @@
 -- The loop over whole records, whatever is written for each. Assumes nothing.
 use Prim.Native.Nat.{ℕ, zero, suc, _+_, _-_, _*_, _%_, _^_, _≤_, _<_}
-use mathlib.Core.Path.{_≡_, refl, sym, ap, _∙_}
-use mathlib.Core.Bool.{Bool, true, false, cond, _||_}
+use mathlib.Core.Path.{_≡_, refl, sym, ap, subst, _∙_}
+use mathlib.Core.Bool.{Bool, true, false, cond, _||_, false≢true}
 use mathlib.Core.List.{List, [], _∷_, _++_}
 use native.Mathlib.Omega.{arith}
 use native.Mathlib.Nat.{mul-suc}
 use lib.ListN.{length, take, drop, length-append}
 use lib.Seq.{sets, length-sets, drop-drop}
+use borrow.Author.Tests.{le-leb}
 use Rattle.bits.specs.Fold.{fold, outputs, anyStep}
 use Rattle.steps.specs.declared.Step.{Step}
 use Rattle.steps.specs.declared.Decoded.{Decoded}
@@ -28,8 +29,12 @@ use Rattle.hart.specs.declared.Stepped.{Stepped}
 use Rattle.hart.specs.Steps.{mapFor, hartWith, handedBack, stepped}
 use Rattle.hart.proofs.StepLaws.{step-parts}
 use Rattle.hart.proofs.LeftLaws.{pmp-stays}
-use Rattle.records.specs.Records.{readStep}
-use Rattle.scrap.specs.Places.{readAt}
+use Rattle.records.specs.declared.Record.{Record}
+use Rattle.records.specs.declared.Record.the-variants.{Words as RecordWords, Broken as NoRecord}
+use Rattle.records.specs.Records.{readStep, readNumbers}
+use Rattle.records.proofs.Numbers.{Numbered, numbers-named, numbers-none}
+use Rattle.scrap.specs.declared.Numbers.{Numbers}
+use Rattle.scrap.specs.Places.{numbersBehind, recordAt as placed}
 use Rattle.trace.specs.declared.Output.{Output}
 use Rattle.trace.specs.declared.Output.the-variants.{Words, Lines}
 use Rattle.trace.specs.declared.Cursor.{Cursor}
@@ -41,12 +46,38 @@ use Rattle.trace.proofs.Writing.{sets-append}
 use Rattle.trace.proofs.Replying.{text-length}
 
 -- the record at a place
-abbrev recordAt : List ℕ → ℕ → List ℕ
+abbrev pub recordAt : List ℕ → ℕ → List ℕ
 recordAt bytes at = take 60 (drop at bytes)
 
-pub read-here : (bytes : List ℕ) (at : ℕ) {d : Decoded} → d ≡ readAt bytes at → readStep (recordAt bytes at) ≡ d
-unfolding readAt
-read-here bytes at e = sym e
+-- what is read at a place where 60 bytes are
+module _ (bytes : List ℕ) (at : ℕ) (h : at + 60 ≤ length bytes) {n : Numbers} (e : n ≡ placed bytes at) where
+  there : n ≡ numbersBehind (readNumbers (recordAt bytes at)) (at + 60)
+  unfolding placed
+  there = e ∙ rw (le-leb (at + 60) (length bytes) h)
+
+  pub read-behind : n .at ≡ at + 60
+  read-behind = go (readNumbers (recordAt bytes at)) refl
+    where
+      go : (r : Record) → readNumbers (recordAt bytes at) ≡ r → n .at ≡ at + 60
+      go (RecordWords step a b) q = ap (λ (x : Numbers). x .at) (there ∙ ap (λ (y : Record). numbersBehind y (at + 60)) q)
+      go NoRecord q = ap (λ (x : Numbers). x .at) (there ∙ ap (λ (y : Record). numbersBehind y (at + 60)) q)
+
+  -- the step that the numbers name
+  pub read-named : n .named ≡ true → Numbered (recordAt bytes at) (n .step) (n .a) (n .b)
+  read-named t = go (readNumbers (recordAt bytes at)) refl
+    where
+      go : (r : Record) → readNumbers (recordAt bytes at) ≡ r → Numbered (recordAt bytes at) (n .step) (n .a) (n .b)
+      go (RecordWords step a b) q =
+          let z = there ∙ ap (λ (y : Record). numbersBehind y (at + 60)) q in
+          numbers-named (recordAt bytes at) (n .step) (n .a) (n .b) (q ∙ (λ j. RecordWords (sym z j .step) (sym z j .a) (sym z j .b)))
+      go NoRecord q = absurd (false≢true (sym (ap (λ (x : Numbers). x .named) (there ∙ ap (λ (y : Record). numbersBehind y (at + 60)) q)) ∙ t))
+
+  pub read-none : n .named ≡ false → readStep (recordAt bytes at) ≡ Nothing
+  read-none t = go (readNumbers (recordAt bytes at)) refl
+    where
+      go : (r : Record) → readNumbers (recordAt bytes at) ≡ r → readStep (recordAt bytes at) ≡ Nothing
+      go (RecordWords step a b) q = absurd (false≢true (sym t ∙ ap (λ (x : Numbers). x .named) (there ∙ ap (λ (y : Record). numbersBehind y (at + 60)) q)))
+      go NoRecord q = numbers-none (recordAt bytes at) q
 
 -- no step answers with an interrupt
 pub taken-plain : (held : Bool) (s : State) (m : Memory) (step : Step) {t : Taken} → t ≡ stepTaken held s m step → answerInterrupt (t .answer) ≡ 0
@@ -163,6 +194,13 @@ module _ (m : Memory) where
       pub replay : afterRecords m start texts ≡ afterRecords m here (recordsOf left (drop at bytes))
       pub put : sets before begin (written (textBy o) (recordsReplies m start texts)) ≡ sets out filled (written (textBy o) (recordsReplies m here (recordsOf left (drop at bytes))))
       pub size : begin + length (written (textBy o) (recordsReplies m start texts)) ≡ filled + length (written (textBy o) (recordsReplies m here (recordsOf left (drop at bytes))))
+
+    -- the same place, by another name
+    pub room-at : {out : List ℕ} {left filled at k : ℕ} → k ≡ at → Room out left filled at → Room out left filled k
+    room-at {out} {left} {filled} e r = subst (λ (i : ℕ). Room out left filled i) (sym e) r
+
+    pub turn-at : {start : Replay} {out : List ℕ} {left : ℕ} {here : Replay} {filled at k : ℕ} → k ≡ at → Turn start out left here filled at → Turn start out left here filled k
+    turn-at {start} {out} {left} {here} {filled} e t = subst (λ (i : ℕ). Turn start out left here filled i) (sym e) t
 
     module _ {out : List ℕ} {left filled at : ℕ} (fits : Room out left filled at) (more : 0 < left) where
       pub room-here : filled + widthOf o ≤ length out

@@ -2,7 +2,6 @@
 use crate::Cursor;
 use crate::Output;
 use crate::replies;
-use steps::Decoded;
 ghost use mathlib.Core.Path.{_≡_};
 ghost use Prim.Native.Nat.{_+_, _*_, _≤_};
 ghost use lib.ListN.{length, drop};
@@ -44,7 +43,8 @@ pub(crate) fn batch(
     let mut at = place;
     while 0 < left {
         left -= 1;
-        let Decoded::Formed(step) = scrap::read(bytes, at) else {
+        let next = scrap::read(bytes, at);
+        if !next.named {
             filled = replies::put_broken(number, output, answers, lines, filled);
             return Cursor {
                 held,
@@ -53,15 +53,15 @@ pub(crate) fn batch(
                 stopped: true,
                 filled,
             };
-        };
-        let next = engine::step(words, memory, base, held, step);
-        let answer = next.answer;
-        let accessed = steps::is_access(step);
+        }
+        let taken = engine::step_named(words, memory, base, held, next.step, next.a, next.b);
+        let answer = taken.answer;
+        let accessed = steps::names_access(next.step, next.a, next.b);
         filled = replies::put_answered(answer, accessed, output, answers, lines, filled);
-        held = next.held;
-        remap = remap | next.remap;
+        held = taken.held;
+        remap = remap | taken.remap;
         number = std::num::wrapping_add_u64(number, 1);
-        at += 60;
+        at = next.at;
     }
     Cursor {
         held,

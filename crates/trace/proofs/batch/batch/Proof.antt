@@ -1,16 +1,21 @@
 -- What is left of the records does with the replay at hand what all of them do with the first, whatever the map. Assumes nothing.
-use Prim.Native.Nat.{_+_, _-_}
-use mathlib.Core.Path.{_≡_, refl, _∙_}
+use Prim.Native.Nat.{ℕ, _+_, _-_, _≤_}
+use mathlib.Core.Path.{_≡_, refl, sym, ap, subst, _∙_}
 use mathlib.Core.Bool.{false}
+use native.Mathlib.Omega.{arith}
 use lib.ListN.{length, drop}
+use borrow.Author.Tests.{not-true, not-false}
 use borrow.Author.Needs.{needs}
+use Rattle.steps.specs.Decode.{accessNamed}
 use Rattle.map.specs.declared.Map.{Map}
+use Rattle.engine.specs.Taking.{stepTaken, namedTaken, namedState}
+use Rattle.records.proofs.Numbers.{Numbered}
 use Rattle.paging.specs.Memory.{Memory, memoryAt}
 use Rattle.state.specs.Hold.{canHold}
 use Rattle.state.specs.Words.{stateOf}
 use Rattle.trace.specs.Replies.{Answered, Broken, target, spared}
 use Rattle.trace.specs.Batches.{recordsOf, carried, carriedBy}
-use Rattle.trace.proofs.Batching.{Room, Turn, both-long, read-here, taken-plain, held-next, room-here, room-next, turn-formed, turn-broken, turn-over, stopped-still, none-still, still-put, batched}
+use Rattle.trace.proofs.Batching.{recordAt, Room, Turn, both-long, read-behind, read-named, read-none, taken-plain, held-next, room-at, turn-at, room-here, room-next, turn-formed, turn-broken, turn-over, stopped-still, none-still, still-put, batched}
 use Rattle.trace.proofs.batch.batch.Statement.{statement}
 use Rattle.trace.proofs.batch.batch.Tie as tie
 
@@ -67,6 +72,10 @@ put-broken-requires c κs =
     room-here (lentBy e) (a .output) (a .bytes .now) (target (a .output) (a .answers .now) (a .lines .now)) (recordsOf (a .count) (drop (a .place) (a .bytes .now))) (a .start .filled)
     (i .before .loop .inv .0) (i .loop-test .taken)
 
+-- the record lies in the bytes
+inside : (i : tie.In-loop Inv-loop μ-loop) → i .before .loop .at + 60 ≤ length (begun (i .before .before) .args .bytes .now)
+inside i = omega (arith, i .before .loop .inv .0 .within, i .loop-test .taken)
+
 -- after a broken record
 module _ (p : tie.After-put-broken Inv-loop μ-loop) where
   abbrev at-read : tie.After-read Inv-loop μ-loop
@@ -111,7 +120,7 @@ returns-2 c =
     let m = lentBy e in
     let texts = recordsOf (a .count) (drop (a .place) (a .bytes .now)) in
     let buffer = target (a .output) (a .answers .now) (a .lines .now) in
-    let none = read-here (a .bytes .now) (o .at) (at-read p .read .ensures) ∙ p .before .before .before .enum-told .given .1 in (
+    let none = read-none (a .bytes .now) (o .at) (inside i) (at-read p .read .ensures) (not-true _ (p .before .before .before .if2 .taken)) in (
       (λ (map : Map).
           let turn = turn-broken m (a .output) (a .bytes .now) buffer texts (a .start .filled) (stateOf (o .words)) (o .remap) map (o .number) (o .inv .3 map)
           (i .loop-test .taken) none (p .put-broken .ensures .0) in
@@ -120,47 +129,63 @@ returns-2 c =
       (o .inv .2, broken-spared p),
     )
 
+-- the step that is taken, from where it was
+module _ (g : tie.After-step-named Inv-loop μ-loop) where
+  abbrev at-numbers : tie.After-read Inv-loop μ-loop
+  at-numbers = g .before .before .before .before
+
+  abbrev in-formed : tie.In-loop Inv-loop μ-loop
+  in-formed = at-numbers .before
+
+  formed-there : let n = at-numbers .read .result in Numbered (recordAt (begun (in-formed .before .before) .args .bytes .now) (in-formed .before .loop .at)) (n .step) (n .a) (n .b)
+  formed-there =
+      let o = in-formed .before .loop in
+      let a = begun (in-formed .before .before) .args in
+      read-named (a .bytes .now) (o .at) (inside in-formed) (at-numbers .read .ensures) (not-false _ (g .before .before .if2 .left))
+
+  taken-there : let o = in-formed .before .loop in
+      g .step-named .result ≡ stepTaken (o .held) (stateOf (o .words)) (lentBy (in-formed .before .before)) (formed-there .named)
+  taken-there =
+      let o = in-formed .before .loop in
+      g .step-named .ensures .0 ∙ ap (namedTaken (o .held) (stateOf (o .words)) (lentBy (in-formed .before .before))) (formed-there .formed)
+
 put-answered-requires : tie.Need-put-answered-requires Inv-loop μ-loop
 put-answered-requires c κs =
     let g = c .before .before .before in
-    let t = g .before .before in
-    let i = t .before .before .before .before in
+    let i = in-formed g in
     let o = i .before .loop in
     let e = i .before .before in
-    let a = begun e .args in
-    let step = t .before .step .given .0 .0 in (
+    let a = begun e .args in (
       room-here (lentBy e) (a .output) (a .bytes .now) (target (a .output) (a .answers .now) (a .lines .now)) (recordsOf (a .count) (drop (a .place) (a .bytes .now))) (a .start .filled)
           (o .inv .0) (i .loop-test .taken),
-      taken-plain (o .held) (stateOf (o .words)) (lentBy e) step (g .step2 .ensures .0),
+      taken-plain (o .held) (stateOf (o .words)) (lentBy e) (formed-there g .named) (taken-there g),
     )
-
-add-at : tie.Need-add-at Inv-loop μ-loop
-add-at c =
-    let i = c .before .before .before .before .before .before .before .before .before .before .before .before .before .before .before .before in
-    search (needs, i .before .loop .inv .0 .within, i .loop-test .taken)
 
 loop-again : tie.Need-loop-again Inv-loop μ-loop
 loop-again c =
     let p = c .before .before .before .before .before .before in
     let q = p .before .before .before in
     let g = q .before in
-    let f = g .before .before .before in
-    let r = f .before .before in
-    let i = r .before in
+    let i = in-formed g in
     let o = i .before .loop in
     let e = i .before .before in
     let a = begun e .args in
     let m = lentBy e in
     let texts = recordsOf (a .count) (drop (a .place) (a .bytes .now)) in
     let buffer = target (a .output) (a .answers .now) (a .lines .now) in
-    let step = f .step .given .0 .0 in
-    let named = read-here (a .bytes .now) (o .at) (r .read .ensures) ∙ f .step .given .1 in (
-      room-next m (a .output) (a .bytes .now) buffer texts (a .start .filled) (o .inv .0) (i .loop-test .taken) (Answered (g .step2 .result .answer) (q .is-access .result)) (p .put-answered .ensures .0),
+    let there = formed-there g in
+    let step = there .named in
+    let state = g .step-named .ensures .1 ∙ ap (namedState (o .held) (stateOf (o .words)) m) (there .formed) in
+    let behind = read-behind (a .bytes .now) (o .at) (inside i) (at-numbers g .read .ensures) in (
+      room-at m (a .output) (a .bytes .now) buffer texts (a .start .filled) behind
+          (room-next m (a .output) (a .bytes .now) buffer texts (a .start .filled) (o .inv .0) (i .loop-test .taken) (Answered (g .step-named .result .answer) (q .names-access .result))
+          (p .put-answered .ensures .0)),
       p .put-answered .ensures .1 ∙ o .inv .1,
-      held-next m (stateOf (o .words)) step (o .inv .2) (g .step2 .ensures .0) (g .step2 .ensures .1),
+      held-next m (stateOf (o .words)) step (o .inv .2) (taken-there g) state,
       λ (map : Map).
-          turn-formed m (a .output) (a .bytes .now) buffer texts (a .start .filled) (stateOf (o .words)) (o .remap) map (o .number) (o .inv .3 map) (i .loop-test .taken) step
-          (o .inv .2) (g .step2 .ensures .0) (g .step2 .ensures .1) named (c .wrapping-add-u64 .ensures) (q .is-access .ensures) (p .put-answered .ensures .0),
+          turn-at m (a .output) (a .bytes .now) buffer texts (a .start .filled) behind
+          (turn-formed m (a .output) (a .bytes .now) buffer texts (a .start .filled) (stateOf (o .words)) (o .remap) map (o .number) (o .inv .3 map) (i .loop-test .taken) step
+          (o .inv .2) (taken-there g) state (there .read) (c .wrapping-add-u64 .ensures) (q .names-access .ensures ∙ ap accessNamed (there .formed)) (p .put-answered .ensures .0)),
     )
 
 -- both buffers are as long as they were
@@ -201,8 +226,6 @@ batch-spec =
     loop-holds
     (λ c. search needs)
     (λ c κs. search needs)
-    (λ c. search needs)
-    (λ c. search needs)
     put-broken-requires
     same-length
     same-length-2
@@ -211,7 +234,6 @@ batch-spec =
     (λ c κs. search needs)
     put-answered-requires
     (λ c κs. search needs)
-    add-at
     (λ c. search needs)
     loop-again
     same-length-3
