@@ -12,8 +12,8 @@ use Rattle.trace.specs.declared.Reader.{Reader}
 use Rattle.trace.specs.Replies.{Reply}
 use Rattle.trace.specs.Reading.{Reading, reading, afterByte, byteReplies, afterBytes, repliesTo}
 use Rattle.trace.specs.Feeding.{leftOf, readingOf, readerOf, answerable, afterFeed, feedReplies, takenBy, fed, leftCount}
-use Rattle.trace.specs.CutAnywhere.{Held, Feed, feeding, takenFrom, answersTo}
-use Rattle.trace.specs.Taking.{counting, Unmoved, Taking, Starting}
+use Rattle.trace.specs.CutAnywhere.{Handed, Feed, feeding, takenFrom, answersTo}
+use Rattle.trace.specs.Taking.{withCount, Unmoved, Taking, Starting}
 use Rattle.trace.proofs.Readers.{Kept, reading-kept, bytes-kept, left-back}
 use Rattle.trace.proofs.Counting.{replies-count}
 use Rattle.trace.proofs.OneByte.{bytes-ignored, left-behind, number-on, stops}
@@ -27,7 +27,7 @@ reported r h = go (r .stopped)
     go true = refl
     go false = omega (arith, length-take (min (r .count) 59) (r .carried))
 
-module _ (c : Held) (f : Feed) where
+module _ (c : Handed) (f : Feed) where
   abbrev m : Memory
   m = f .memory
 
@@ -127,21 +127,23 @@ module _ (c : Held) (f : Feed) where
 
   -- ---- the count
 
-  capped : 59 < c .reader .count → feeding c f ≡ feeding (counting c 59) f
-  unfolding fed
+  capped : 59 < c .reader .count → (feeding c f ≡ feeding (withCount c 59) f) × (answersTo c f ≡ answersTo (withCount c 59) f)
+  unfolding fed answersTo
   capped h =
       let n : min (c .reader .count) 59 ≡ min 59 59 = omega arith in
-      let p : x ≡ readingOf (counting c 59 .reader) (c .hart) (c .map) =
-      ap (λ (k : ℕ). reading (x .replay) (cond (c .reader .stopped) [] (take k (c .reader .carried)))) n in
-      (λ j. record {
-        reader = readerOf (afterFeed m (p j) (f .room) (f .scrap));
-        hart = afterFeed m (p j) (f .room) (f .scrap) .replay .hart;
-        map = afterFeed m (p j) (f .room) (f .scrap) .replay .map;
-        taken = takenBy m (p j) (f .room) (f .scrap);
-        answered = length (feedReplies m (p j) (f .room) (f .scrap));
-      })
+      let p : x ≡ readingOf (withCount c 59 .reader) (c .hart) (c .map) =
+      ap (λ (k : ℕ). reading (x .replay) (cond (c .reader .stopped) [] (take k (c .reader .carried)))) n in (
+        (λ j. record {
+          reader = readerOf (afterFeed m (p j) (f .room) (f .scrap));
+          hart = afterFeed m (p j) (f .room) (f .scrap) .replay .hart;
+          map = afterFeed m (p j) (f .room) (f .scrap) .replay .map;
+          taken = takenBy m (p j) (f .room) (f .scrap);
+          answered = length (feedReplies m (p j) (f .room) (f .scrap));
+        }),
+        (λ j. feedReplies m (p j) (f .room) (f .scrap)),
+      )
 
-pub taking : (c : Held) (f : Feed) → Taking c f
+pub taking : (c : Handed) (f : Feed) → Taking c f
 unfolding fed takenFrom answersTo
 taking c f = record {
   within = taken c f .0;

@@ -7,15 +7,15 @@ use lib.ListN.{length, take, drop}
 use Rattle.trace.specs.declared.Fed.{Fed}
 use Rattle.trace.specs.Replies.{Broken}
 use Rattle.trace.specs.Feeding.{leftOf, newReader, leftCount}
-use Rattle.trace.specs.CutAnywhere.{Held, Feed, feeding, takenFrom, answersTo}
+use Rattle.trace.specs.CutAnywhere.{Handed, Feed, feeding, takenFrom, answersTo}
 
--- a reader with another count
-abbrev pub counting : Held → ℕ → Held
-counting c n =
+-- the same with another count of bytes carried
+abbrev pub withCount : Handed → ℕ → Handed
+withCount c n =
     record { reader = record { carried = c .reader .carried; count = n; number = c .reader .number; stopped = c .reader .stopped }; hart = c .hart; map = c .map }
 
--- what a feed hands back is what it was handed, but for the place of the bytes left over
-pub record Unmoved (c : Held) (after : Fed) : Type 0 where
+-- what a feed hands back is what it was handed, but for what stands behind the bytes left over
+pub record Unmoved (c : Handed) (after : Fed) : Type 0 where
   pub hart : after .hart ≡ c .hart
   pub map : after .map ≡ c .map
   pub number : after .reader .number ≡ c .reader .number
@@ -23,7 +23,7 @@ pub record Unmoved (c : Held) (after : Fed) : Type 0 where
   pub left : leftOf (after .reader) ≡ leftOf (c .reader)
   pub answered : after .answered ≡ 0
 
-pub record Taking (c : Held) (f : Feed) : Type 0 where
+pub record Taking (c : Handed) (f : Feed) : Type 0 where
   pub within : feeding c f .taken ≤ length (f .scrap)
   -- an answer for each that is counted, and none without room
   pub counted : length (answersTo c f) ≡ feeding c f .answered
@@ -55,7 +55,7 @@ pub record Taking (c : Held) (f : Feed) : Type 0 where
   -- "scraps of any length, also empty"
   pub empty : f .scrap ≡ [] → Unmoved c (feeding c f)
   -- "a carried count above 59 is read as 59"
-  pub capped : 59 < c .reader .count → feeding c f ≡ feeding (counting c 59) f
+  pub capped : 59 < c .reader .count → (feeding c f ≡ feeding (withCount c 59) f) × (answersTo c f ≡ answersTo (withCount c 59) f)
 
 -- before the first byte nothing is carried, and the first record's number is 0
 pub record Starting : Type 0 where
