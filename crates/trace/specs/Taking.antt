@@ -1,12 +1,12 @@
 -- 02, [1]: what one feed takes, answers and leaves, for any reader, hart, map, scrap, room and memory.
-use Prim.Native.Nat.{ℕ, _+_, _-_, _*_, _%_, _^_, _≤_, _<_}
+use Prim.Native.Nat.{ℕ, _+_, _-_, _*_, _/_, _%_, _^_, _≤_, _<_}
 use mathlib.Core.Path.{_≡_}
 use mathlib.Core.Bool.{true, false}
-use mathlib.Core.List.{[], _∷_, _++_}
+use mathlib.Core.List.{List, [], _∷_, _++_}
 use lib.ListN.{length, take, drop}
 use Rattle.trace.specs.declared.Fed.{Fed}
-use Rattle.trace.specs.Replies.{Broken}
-use Rattle.trace.specs.Feeding.{leftOf, newReader, leftCount}
+use Rattle.trace.specs.Replies.{Broken, replyNumbers, written}
+use Rattle.trace.specs.Feeding.{leftOf, newReader, leftCount, feedWords}
 use Rattle.trace.specs.CutAnywhere.{Handed, Feed, feeding, takenFrom, answersTo}
 
 -- the same with another count of bytes carried
@@ -28,6 +28,10 @@ pub record Taking (c : Handed) (f : Feed) : Type 0 where
   -- an answer for each that is counted, and none without room
   pub counted : length (answersTo c f) ≡ feeding c f .answered
   pub fits : feeding c f .answered ≤ f .room
+  -- the slice for the answers, with room for one in each four words: at its front the numbers of each answer; the words behind are unchanged
+  pub slice : (answers : List ℕ) → f .room ≡ length answers / 4
+      → feedWords (f .memory) (c .reader) (c .hart) (c .map) (f .scrap) answers
+      ≡ written replyNumbers (answersTo c f) ++ drop (4 * feeding c f .answered) answers
   -- bytes are left untaken only where the next one would complete a record that there is no room for
   pub full : feeding c f .taken < length (f .scrap)
       → (feeding c f .answered ≡ f .room) × (feeding c f .reader .stopped ≡ false) × (length (leftOf (feeding c f .reader)) ≡ 59)
@@ -63,3 +67,7 @@ pub record Starting : Type 0 where
   pub left : leftOf newReader ≡ []
   pub number : newReader .number ≡ 0
   pub stopped : newReader .stopped ≡ false
+
+-- the four words of refusal 8: 5 for a refusal, 8, "the record's number", and 0
+abbrev pub BrokenNumbers : Type 0
+BrokenNumbers = (number : ℕ) → replyNumbers (Broken number) ≡ 5 ∷ 8 ∷ number ∷ 0 ∷ []
