@@ -97,7 +97,7 @@ abbrev pub AllRoom : List Feed → Type 0
 AllRoom [] = Unit {0}
 AllRoom (f ∷ fs) = (length (f .scrap) ≤ 60 * f .room) × AllRoom fs
 
--- the claim: with such room the bytes taken are the bytes given
+-- the claim, of "scraps of any length, also empty": with such room the bytes taken are the bytes given
 abbrev pub EveryByte : Type 0
 EveryByte = (c : Handed) (fs : List Feed) → AllRoom fs → allTaken c fs ≡ scraps fs
 
@@ -119,7 +119,7 @@ atOnce m x bytes = record {
 }
 
 pub record OneSlice (m : Memory) : Type 0 where
-  -- feeds come to what the bytes that they take come to at once
+  -- "the hart steps at each full record": feeds come to what the bytes that they take come to at once
   pub at-once : (c : Handed) (fs : List Feed) → AllLend m fs → outcome c fs ≡ atOnce m (readingOf (c .reader) (c .hart) (c .map)) (allTaken c fs)
   -- "the same bytes", those taken, are enough for the same outcome, whatever room each feed had
   pub alike : (c : Handed) (fs gs : List Feed) → AllLend m fs → AllLend m gs → allTaken c fs ≡ allTaken c gs → outcome c fs ≡ outcome c gs

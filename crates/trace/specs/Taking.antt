@@ -24,6 +24,7 @@ pub record Unmoved (c : Handed) (after : Fed) : Type 0 where
   pub answered : after .answered ≡ 0
 
 pub record Taking (c : Handed) (f : Feed) : Type 0 where
+  -- "scraps of any length": no more is taken than was given
   pub within : feeding c f .taken ≤ length (f .scrap)
   -- an answer for each that is counted, and none without room
   pub counted : length (answersTo c f) ≡ feeding c f .answered
@@ -61,7 +62,7 @@ pub record Taking (c : Handed) (f : Feed) : Type 0 where
   -- "a carried count above 59 is read as 59"
   pub capped : 59 < c .reader .count → (feeding c f ≡ feeding (withCount c 59) f) × (answersTo c f ≡ answersTo (withCount c 59) f)
 
--- before the first byte nothing is carried, and the first record's number is 0
+-- "the record's number, from 0": that of the first record, before which nothing is carried
 pub record Starting : Type 0 where
   pub carries : length (newReader .carried) ≡ 59
   pub left : leftOf newReader ≡ []
