@@ -1,19 +1,20 @@
 -- However the same bytes are cut, what they come to is the same. Assumes nothing.
 -- Both sides are the bytes read at once, with a list of memories of which each record that is answered uses up one.
-use Prim.Native.Nat.{ℕ, _+_, _-_, _*_}
+use Prim.Native.Nat.{ℕ, _+_, _-_, _*_, _≤_}
 use mathlib.Core.Path.{_≡_, refl, sym, ap, _∙_}
 use mathlib.Core.Bool.{Bool, true, false, cond}
 use mathlib.Core.List.{List, [], _∷_, _++_, append-assoc, append-nil}
+use native.Mathlib.Omega.{arith}
 use lib.Dec.{ltb}
 use lib.ListN.{length, take, drop, replicate, length-append, take-append-drop, replicate-append-replicate}
-use lib.Seq.{take-at, take-length}
+use lib.Seq.{take-at, take-all, take-length}
 use Rattle.bits.specs.Fold.{fold, outputs}
 use Rattle.bits.proofs.FoldLaws.{fold-append, outputs-append}
 use Rattle.paging.specs.Memory.{Memory, memoryAt}
 use Rattle.trace.specs.Replies.{Reply}
 use Rattle.trace.specs.Reading.{Replay, Reading, reading, afterRecord, recordReplies, afterByte, byteReplies, afterBytes, repliesTo}
 use Rattle.trace.specs.Feeding.{readingOf, answerable, afterFeed, feedReplies, takenBy, fed}
-use Rattle.trace.specs.CutAnywhere.{Feed, Held, heldAfter, takenFrom, answersTo, lentAt, afterFeeds, allTaken, allAnswers, allLent, Outcome, outcome, CutAnywhere, AllLend, atOnce, OneSlice}
+use Rattle.trace.specs.CutAnywhere.{Feed, Handed, handedAfter, takenFrom, answersTo, lentAt, afterFeeds, allTaken, allAnswers, allLent, Outcome, outcome, CutAnywhere, scraps, AllRoom, EveryByte, AllLend, atOnce, OneSlice}
 use Rattle.trace.proofs.OneByte.{bytes-ignored}
 use Rattle.trace.proofs.Readers.{reading-kept, bytes-kept, reading-back}
 
@@ -131,13 +132,13 @@ module _ (m : Memory) where
 
 -- ---- feeds
 
-abbrev readingIn : Held → Reading
+abbrev readingIn : Handed → Reading
 readingIn c = readingOf (c .reader) (c .hart) (c .map)
 
 -- what a feed leaves is what the bytes that it takes leave, and its answers are theirs
-feed-read : (c : Held) (f : Feed)
-    → (readingIn (heldAfter c f) ≡ afterBytes (f .memory) (readingIn c) (takenFrom c f)) × (answersTo c f ≡ repliesTo (f .memory) (readingIn c) (takenFrom c f))
-unfolding fed heldAfter takenFrom answersTo
+feed-read : (c : Handed) (f : Feed)
+    → (readingIn (handedAfter c f) ≡ afterBytes (f .memory) (readingIn c) (takenFrom c f)) × (answersTo c f ≡ repliesTo (f .memory) (readingIn c) (takenFrom c f))
+unfolding fed handedAfter takenFrom answersTo
 feed-read c f =
     let m = f .memory in
     let x = readingIn c in
@@ -146,12 +147,12 @@ feed-read c f =
     let kept = bytes-kept m x (answerable x (f .room) (f .scrap)) (reading-kept (c .reader) (c .hart) (c .map)) in
     (reading-back after kept ∙ sym (t .0), sym (t .1))
 
-lent-count : (c : Held) (f : Feed) → lentAt c f ≡ replicate (length (answersTo c f)) (f .memory)
+lent-count : (c : Handed) (f : Feed) → lentAt c f ≡ replicate (length (answersTo c f)) (f .memory)
 unfolding fed lentAt answersTo
 lent-count c f = refl
 
-run-feed : (c : Held) (f : Feed) (ms : List Memory)
-    → (fold runByte (run (readingIn c) (lentAt c f ++ ms)) (takenFrom c f) ≡ run (readingIn (heldAfter c f)) ms)
+run-feed : (c : Handed) (f : Feed) (ms : List Memory)
+    → (fold runByte (run (readingIn c) (lentAt c f ++ ms)) (takenFrom c f) ≡ run (readingIn (handedAfter c f)) ms)
     × (outputs runByte runReplies (run (readingIn c) (lentAt c f ++ ms)) (takenFrom c f) ≡ answersTo c f)
 run-feed c f ms =
     let m = f .memory in
@@ -165,13 +166,13 @@ run-feed c f ms =
       (λ j. outputs runByte runReplies (run x (e j)) bs) ∙ b .1 ∙ sym (r .1),
     )
 
-run-feeds : (fs : List Feed) (c : Held) (ms : List Memory)
+run-feeds : (fs : List Feed) (c : Handed) (ms : List Memory)
     → (fold runByte (run (readingIn c) (allLent c fs ++ ms)) (allTaken c fs) ≡ run (readingIn (afterFeeds c fs)) ms)
     × (outputs runByte runReplies (run (readingIn c) (allLent c fs ++ ms)) (allTaken c fs) ≡ allAnswers c fs)
 unfolding fold outputs
 run-feeds [] c ms = (refl, refl)
 run-feeds (f ∷ fs) c ms =
-    let d = heldAfter c f in
+    let d = handedAfter c f in
     let x = readingIn c in
     let bs = takenFrom c f in
     let cs = allTaken d fs in
@@ -195,23 +196,44 @@ ends answers x =
 abbrev throughout : Reading → List ℕ → List Memory → Outcome
 throughout x bs ms = ends (outputs runByte runReplies (run x (ms ++ [])) bs) (fold runByte (run x (ms ++ [])) bs .reading)
 
-outcome-throughout : (c : Held) (fs : List Feed) → outcome c fs ≡ throughout (readingIn c) (allTaken c fs) (allLent c fs)
+outcome-throughout : (c : Handed) (fs : List Feed) → outcome c fs ≡ throughout (readingIn c) (allTaken c fs) (allLent c fs)
 outcome-throughout c fs = let r = run-feeds fs c [] in sym (λ j. ends (r .1 j) (r .0 j .reading))
 
 pub cut-anywhere : CutAnywhere
 cut-anywhere c fs gs same = outcome-throughout c fs ∙ (λ j. throughout (readingIn c) (same .0 j) (same .1 j)) ∙ sym (outcome-throughout c gs)
 
+-- ---- every byte
+
+scrap-taken : (c : Handed) (f : Feed) → length (f .scrap) ≤ 60 * f .room → takenFrom c f ≡ f .scrap
+unfolding fed takenFrom
+scrap-taken c f h = go (afterFeed (f .memory) x (f .room) (f .scrap) .replay .stopped)
+  where
+    x : Reading
+    x = readingIn c
+
+    front : answerable x (f .room) (f .scrap) ≡ f .scrap
+    front = take-all ((60 * f .room + 59) - length (x .left)) (f .scrap) (omega (arith, h, reading-kept (c .reader) (c .hart) (c .map) .short))
+
+    go : (s : Bool) → take (cond s (length (f .scrap)) (length (answerable x (f .room) (f .scrap)))) (f .scrap) ≡ f .scrap
+    go true = take-length (f .scrap)
+    go false = front-taken x (f .room) (f .scrap) ∙ front
+
+pub every-byte : EveryByte
+unfolding outputs
+every-byte c [] room = refl
+every-byte c (f ∷ fs) room = let e = scrap-taken c f (room .0) in let r = every-byte (handedAfter c f) fs (room .1) in (λ j. e j ++ r j)
+
 -- ---- one slice of memory for all records
 
 module _ (m : Memory) where
-  slice-read : (fs : List Feed) (c : Held) → AllLend m fs
+  slice-read : (fs : List Feed) (c : Handed) → AllLend m fs
       → (readingIn (afterFeeds c fs) ≡ afterBytes m (readingIn c) (allTaken c fs)) × (allAnswers c fs ≡ repliesTo m (readingIn c) (allTaken c fs))
   unfolding fold outputs
   slice-read [] c lend = (refl, refl)
   slice-read (f ∷ fs) c lend =
       let x = readingIn c in
       let bs = takenFrom c f in
-      let d = heldAfter c f in
+      let d = handedAfter c f in
       let cs = allTaken d fs in
       let e = feed-read c f in
       let here : readingIn d ≡ afterBytes m x bs = e .0 ∙ (λ j. afterBytes (lend .0 j) x bs) in
@@ -221,11 +243,15 @@ module _ (m : Memory) where
         (λ j. answers j ++ r .1 j) ∙ (λ j. repliesTo m x bs ++ repliesTo m (here j) cs) ∙ sym (outputs-append (afterByte m) (byteReplies m) x bs cs),
       )
 
-  slice-at-once : (c : Held) (fs : List Feed) → AllLend m fs → outcome c fs ≡ atOnce m (readingIn c) (allTaken c fs)
+  slice-at-once : (c : Handed) (fs : List Feed) → AllLend m fs → outcome c fs ≡ atOnce m (readingIn c) (allTaken c fs)
   slice-at-once c fs lend = let r = slice-read fs c lend in λ j. ends (r .1 j) (r .0 j)
+
+  alike : (c : Handed) (fs gs : List Feed) → AllLend m fs → AllLend m gs → allTaken c fs ≡ allTaken c gs → outcome c fs ≡ outcome c gs
+  alike c fs gs l k e = slice-at-once c fs l ∙ ap (atOnce m (readingIn c)) e ∙ sym (slice-at-once c gs k)
 
   pub one-slice : OneSlice m
   one-slice = record {
     at-once = slice-at-once;
-    alike = λ c fs gs l k e. slice-at-once c fs l ∙ ap (atOnce m (readingIn c)) e ∙ sym (slice-at-once c gs k);
+    alike = alike;
+    cut = λ c fs gs l k r t e. alike c fs gs l k (every-byte c fs r ∙ e ∙ sym (every-byte c gs t));
   }

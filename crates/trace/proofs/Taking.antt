@@ -1,21 +1,22 @@
 -- What one feed takes, answers and leaves. Assumes nothing.
-use Prim.Native.Nat.{ℕ, _+_, _-_, _*_, _≤_, _<_, min}
+use Prim.Native.Nat.{ℕ, _+_, _-_, _*_, _/_, _≤_, _<_, min}
 use mathlib.Core.Path.{_≡_, refl, sym, ap, _∙_}
 use mathlib.Core.Bool.{Bool, true, false, cond}
 use mathlib.Core.List.{List, [], _++_}
 use native.Mathlib.Omega.{arith}
 use lib.ListN.{length, take, drop, replicate, length-append, length-take, length-replicate}
-use lib.Seq.{take-nil, length-sets}
+use lib.Seq.{take-nil, sets, sets-eq, length-sets}
 use Rattle.bits.proofs.FoldLaws.{fold-nil, outputs-nil}
 use Rattle.paging.specs.Memory.{Memory}
 use Rattle.trace.specs.declared.Reader.{Reader}
-use Rattle.trace.specs.Replies.{Reply}
+use Rattle.trace.specs.Replies.{Reply, replyNumbers, written}
 use Rattle.trace.specs.Reading.{Reading, reading, afterByte, byteReplies, afterBytes, repliesTo}
-use Rattle.trace.specs.Feeding.{leftOf, readingOf, readerOf, answerable, afterFeed, feedReplies, takenBy, fed, leftCount}
-use Rattle.trace.specs.CutAnywhere.{Held, Feed, feeding, takenFrom, answersTo}
-use Rattle.trace.specs.Taking.{counting, Unmoved, Taking, Starting}
+use Rattle.trace.specs.Feeding.{leftOf, readingOf, readerOf, answerable, afterFeed, feedReplies, takenBy, fed, feedWords, leftCount}
+use Rattle.trace.specs.CutAnywhere.{Handed, Feed, feeding, takenFrom, answersTo}
+use Rattle.trace.specs.Taking.{withCount, Unmoved, Taking, Starting, BrokenNumbers}
 use Rattle.trace.proofs.Readers.{Kept, reading-kept, bytes-kept, left-back}
 use Rattle.trace.proofs.Counting.{replies-count}
+use Rattle.trace.proofs.Replying.{written-words}
 use Rattle.trace.proofs.OneByte.{bytes-ignored, left-behind, number-on, stops}
 use Rattle.trace.proofs.CutAnywhere.{front-taken}
 
@@ -27,7 +28,7 @@ reported r h = go (r .stopped)
     go true = refl
     go false = omega (arith, length-take (min (r .count) 59) (r .carried))
 
-module _ (c : Held) (f : Feed) where
+module _ (c : Handed) (f : Feed) where
   abbrev m : Memory
   m = f .memory
 
@@ -80,6 +81,16 @@ module _ (c : Held) (f : Feed) where
   fits : length replies ≤ f .room
   fits = omega (arith, replies-count m x front, front-length, before-kept .short)
 
+  slice : (answers : List ℕ) → f .room ≡ length answers / 4
+      → feedWords m (c .reader) (c .hart) (c .map) (f .scrap) answers ≡ written replyNumbers replies ++ drop (4 * length replies) answers
+  unfolding feedWords
+  slice answers e =
+      let text = written replyNumbers replies in
+      let n : 0 + length text ≡ 4 * length replies = omega (arith, written-words replies) in
+      (λ j. sets answers 0 (written replyNumbers (feedReplies m x (sym e j) (f .scrap))))
+      ∙ sets-eq text answers 0 (omega (arith, n, fits, e))
+      ∙ ap (λ (i : ℕ). text ++ drop i answers) n
+
   all-taken : after .replay .stopped ≡ true → takenBy m x (f .room) (f .scrap) ≡ length (f .scrap)
   all-taken p = λ j. cond (p j) (length (f .scrap)) (length front)
 
@@ -127,26 +138,29 @@ module _ (c : Held) (f : Feed) where
 
   -- ---- the count
 
-  capped : 59 < c .reader .count → feeding c f ≡ feeding (counting c 59) f
-  unfolding fed
+  capped : 59 < c .reader .count → (feeding c f ≡ feeding (withCount c 59) f) × (answersTo c f ≡ answersTo (withCount c 59) f)
+  unfolding fed answersTo
   capped h =
       let n : min (c .reader .count) 59 ≡ min 59 59 = omega arith in
-      let p : x ≡ readingOf (counting c 59 .reader) (c .hart) (c .map) =
-      ap (λ (k : ℕ). reading (x .replay) (cond (c .reader .stopped) [] (take k (c .reader .carried)))) n in
-      (λ j. record {
-        reader = readerOf (afterFeed m (p j) (f .room) (f .scrap));
-        hart = afterFeed m (p j) (f .room) (f .scrap) .replay .hart;
-        map = afterFeed m (p j) (f .room) (f .scrap) .replay .map;
-        taken = takenBy m (p j) (f .room) (f .scrap);
-        answered = length (feedReplies m (p j) (f .room) (f .scrap));
-      })
+      let p : x ≡ readingOf (withCount c 59 .reader) (c .hart) (c .map) =
+      ap (λ (k : ℕ). reading (x .replay) (cond (c .reader .stopped) [] (take k (c .reader .carried)))) n in (
+        (λ j. record {
+          reader = readerOf (afterFeed m (p j) (f .room) (f .scrap));
+          hart = afterFeed m (p j) (f .room) (f .scrap) .replay .hart;
+          map = afterFeed m (p j) (f .room) (f .scrap) .replay .map;
+          taken = takenBy m (p j) (f .room) (f .scrap);
+          answered = length (feedReplies m (p j) (f .room) (f .scrap));
+        }),
+        (λ j. feedReplies m (p j) (f .room) (f .scrap)),
+      )
 
-pub taking : (c : Held) (f : Feed) → Taking c f
+pub taking : (c : Handed) (f : Feed) → Taking c f
 unfolding fed takenFrom answersTo
 taking c f = record {
   within = taken c f .0;
   counted = refl;
   fits = fits c f;
+  slice = slice c f;
   full = taken c f .1;
   all = taken c f .2;
   short = let l = ap length (left-after c f) in omega (arith, l, after-kept c f .short);
@@ -168,3 +182,6 @@ taking c f = record {
 
 pub starting : Starting
 starting = record { carries = refl; left = refl; number = refl; stopped = refl }
+
+pub broken-numbers : BrokenNumbers
+broken-numbers number = refl

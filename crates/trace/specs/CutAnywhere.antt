@@ -1,10 +1,10 @@
 -- 02, [1]: "However the same bytes are cut, answers, end state and map are the same", whatever room each feed had, from any reader, hart and map; with the
 -- same words and address lent at each record ([8]).
-use Prim.Native.Nat.{ℕ}
+use Prim.Native.Nat.{ℕ, _*_, _≤_}
 use mathlib.Core.Path.{_≡_}
 use mathlib.Core.Bool.{Bool}
-use mathlib.Core.List.{List, [], _∷_}
-use lib.ListN.{take, replicate}
+use mathlib.Core.List.{List, [], _∷_, _++_}
+use lib.ListN.{length, take, replicate}
 use Rattle.bits.specs.Fold.{fold, outputs}
 use Rattle.paging.specs.Memory.{Memory}
 use Rattle.map.specs.declared.Map.{Map}
@@ -22,41 +22,41 @@ pub record Feed : Type 0 where
   pub memory : Memory
 
 -- what is handed from call to call
-pub record Held : Type 0 where
+pub record Handed : Type 0 where
   pub reader : Reader
   pub hart : Hart
   pub map : Map
 
 -- ---- a feed: what it hands back, the bytes that it takes, its answers, and the memory lent at each record that it answers
 
-abbrev pub feeding : Held → Feed → Fed
+abbrev pub feeding : Handed → Feed → Fed
 feeding c f = fed (f .memory) (c .reader) (c .hart) (c .map) (f .room) (f .scrap)
 
-unfoldable pub heldAfter : Held → Feed → Held
-heldAfter c f = record { reader = feeding c f .reader; hart = feeding c f .hart; map = feeding c f .map }
+unfoldable pub handedAfter : Handed → Feed → Handed
+handedAfter c f = record { reader = feeding c f .reader; hart = feeding c f .hart; map = feeding c f .map }
 
-unfoldable pub takenFrom : Held → Feed → List ℕ
+unfoldable pub takenFrom : Handed → Feed → List ℕ
 takenFrom c f = take (feeding c f .taken) (f .scrap)
 
-unfoldable pub answersTo : Held → Feed → List Reply
+unfoldable pub answersTo : Handed → Feed → List Reply
 answersTo c f = feedReplies (f .memory) (readingOf (c .reader) (c .hart) (c .map)) (f .room) (f .scrap)
 
-unfoldable pub lentAt : Held → Feed → List Memory
+unfoldable pub lentAt : Handed → Feed → List Memory
 lentAt c f = replicate (feeding c f .answered) (f .memory)
 
 -- ---- feeds in a row
 
-abbrev pub afterFeeds : Held → List Feed → Held
-afterFeeds c fs = fold heldAfter c fs
+abbrev pub afterFeeds : Handed → List Feed → Handed
+afterFeeds c fs = fold handedAfter c fs
 
-abbrev pub allTaken : Held → List Feed → List ℕ
-allTaken c fs = outputs heldAfter takenFrom c fs
+abbrev pub allTaken : Handed → List Feed → List ℕ
+allTaken c fs = outputs handedAfter takenFrom c fs
 
-abbrev pub allAnswers : Held → List Feed → List Reply
-allAnswers c fs = outputs heldAfter answersTo c fs
+abbrev pub allAnswers : Handed → List Feed → List Reply
+allAnswers c fs = outputs handedAfter answersTo c fs
 
-abbrev pub allLent : Held → List Feed → List Memory
-allLent c fs = outputs heldAfter lentAt c fs
+abbrev pub allLent : Handed → List Feed → List Memory
+allLent c fs = outputs handedAfter lentAt c fs
 
 -- what feeds come to: all answers, the hart and the map at the end, the next record's number, whether refusal 8 has come, and the bytes short of a record
 pub record Outcome : Type 0 where
@@ -67,7 +67,7 @@ pub record Outcome : Type 0 where
   pub stopped : Bool
   pub left : List ℕ
 
-abbrev pub outcome : Held → List Feed → Outcome
+abbrev pub outcome : Handed → List Feed → Outcome
 outcome c fs = record {
   answers = allAnswers c fs;
   hart = afterFeeds c fs .hart;
@@ -78,12 +78,28 @@ outcome c fs = record {
 }
 
 -- the same bytes, with the same memory lent at each record
-abbrev pub SameTrace : Held → List Feed → List Feed → Type 0
+abbrev pub SameTrace : Handed → List Feed → List Feed → Type 0
 SameTrace c fs gs = (allTaken c fs ≡ allTaken c gs) × (allLent c fs ≡ allLent c gs)
 
--- the claim
+-- the claim: "However the same bytes are cut, answers, end state and map are the same"
 abbrev pub CutAnywhere : Type 0
-CutAnywhere = (c : Held) (fs gs : List Feed) → SameTrace c fs gs → outcome c fs ≡ outcome c gs
+CutAnywhere = (c : Handed) (fs gs : List Feed) → SameTrace c fs gs → outcome c fs ≡ outcome c gs
+
+-- ---- the bytes given, where there is room for their answers
+
+-- the scraps, one behind the other
+abbrev pub scraps : List Feed → List ℕ
+scraps [] = []
+scraps (f ∷ fs) = f .scrap ++ scraps fs
+
+-- room for an answer to each 60 bytes of a scrap, whatever is carried before it
+abbrev pub AllRoom : List Feed → Type 0
+AllRoom [] = Unit {0}
+AllRoom (f ∷ fs) = (length (f .scrap) ≤ 60 * f .room) × AllRoom fs
+
+-- the claim, of "scraps of any length, also empty": with such room the bytes taken are the bytes given
+abbrev pub EveryByte : Type 0
+EveryByte = (c : Handed) (fs : List Feed) → AllRoom fs → allTaken c fs ≡ scraps fs
 
 -- ---- one slice of memory for all records
 
@@ -103,7 +119,9 @@ atOnce m x bytes = record {
 }
 
 pub record OneSlice (m : Memory) : Type 0 where
-  -- feeds come to what the bytes that they take come to at once
-  pub at-once : (c : Held) (fs : List Feed) → AllLend m fs → outcome c fs ≡ atOnce m (readingOf (c .reader) (c .hart) (c .map)) (allTaken c fs)
-  -- so the same bytes are enough for the same outcome
-  pub alike : (c : Held) (fs gs : List Feed) → AllLend m fs → AllLend m gs → allTaken c fs ≡ allTaken c gs → outcome c fs ≡ outcome c gs
+  -- "the hart steps at each full record": feeds come to what the bytes that they take come to at once
+  pub at-once : (c : Handed) (fs : List Feed) → AllLend m fs → outcome c fs ≡ atOnce m (readingOf (c .reader) (c .hart) (c .map)) (allTaken c fs)
+  -- "the same bytes", those taken, are enough for the same outcome, whatever room each feed had
+  pub alike : (c : Handed) (fs gs : List Feed) → AllLend m fs → AllLend m gs → allTaken c fs ≡ allTaken c gs → outcome c fs ≡ outcome c gs
+  -- "However the same bytes are cut": said of what is given alone
+  pub cut : (c : Handed) (fs gs : List Feed) → AllLend m fs → AllLend m gs → AllRoom fs → AllRoom gs → scraps fs ≡ scraps gs → outcome c fs ≡ outcome c gs

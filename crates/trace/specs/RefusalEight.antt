@@ -40,12 +40,13 @@ numbers = 0 ∷ 1 ∷ 2 ∷ 3 ∷ 4 ∷ 5 ∷ 6 ∷ 7 ∷ 8 ∷ 9 ∷ 10 ∷ 11 
 pub record RefusalEight (m : Memory) : Type 0 where
   -- ---- a record's bytes
 
+  -- "a step number above 17, an unused argument that isn't 0, or a broken line": read as no step, and nothing else is
   pub none : (text : List ℕ) → NamesNone text → readStep text ≡ Nothing
   pub only : (text : List ℕ) → readStep text ≡ Nothing → NamesNone text
-  -- the step of a record is that of its three words, and there is one
+  -- "a record is three lines": its step is that of their words, and there is one
   pub named : (text : List ℕ) (step a b : ℕ) → Names text step a b → readStep text ≡ decoded step a b
   pub formed : (step a b : ℕ) → step ≤ 17 → decoded step a b ≡ Nothing → ⊥
-  -- no other length is a record
+  -- "60 bytes": no other length is a record
   pub sixty : (text : List ℕ) (step a b : ℕ) → Names text step a b → length text ≡ 60
   -- ---- the byte that completes a record
 

@@ -1,21 +1,21 @@
 -- 02, [1]: what one feed takes, answers and leaves, for any reader, hart, map, scrap, room and memory.
-use Prim.Native.Nat.{ℕ, _+_, _-_, _*_, _%_, _^_, _≤_, _<_}
+use Prim.Native.Nat.{ℕ, _+_, _-_, _*_, _/_, _%_, _^_, _≤_, _<_}
 use mathlib.Core.Path.{_≡_}
 use mathlib.Core.Bool.{true, false}
-use mathlib.Core.List.{[], _∷_, _++_}
+use mathlib.Core.List.{List, [], _∷_, _++_}
 use lib.ListN.{length, take, drop}
 use Rattle.trace.specs.declared.Fed.{Fed}
-use Rattle.trace.specs.Replies.{Broken}
-use Rattle.trace.specs.Feeding.{leftOf, newReader, leftCount}
-use Rattle.trace.specs.CutAnywhere.{Held, Feed, feeding, takenFrom, answersTo}
+use Rattle.trace.specs.Replies.{Broken, replyNumbers, written}
+use Rattle.trace.specs.Feeding.{leftOf, newReader, leftCount, feedWords}
+use Rattle.trace.specs.CutAnywhere.{Handed, Feed, feeding, takenFrom, answersTo}
 
--- a reader with another count
-abbrev pub counting : Held → ℕ → Held
-counting c n =
+-- the same with another count of bytes carried
+abbrev pub withCount : Handed → ℕ → Handed
+withCount c n =
     record { reader = record { carried = c .reader .carried; count = n; number = c .reader .number; stopped = c .reader .stopped }; hart = c .hart; map = c .map }
 
--- what a feed hands back is what it was handed, but for the place of the bytes left over
-pub record Unmoved (c : Held) (after : Fed) : Type 0 where
+-- what a feed hands back is what it was handed, but for what stands behind the bytes left over
+pub record Unmoved (c : Handed) (after : Fed) : Type 0 where
   pub hart : after .hart ≡ c .hart
   pub map : after .map ≡ c .map
   pub number : after .reader .number ≡ c .reader .number
@@ -23,11 +23,16 @@ pub record Unmoved (c : Held) (after : Fed) : Type 0 where
   pub left : leftOf (after .reader) ≡ leftOf (c .reader)
   pub answered : after .answered ≡ 0
 
-pub record Taking (c : Held) (f : Feed) : Type 0 where
+pub record Taking (c : Handed) (f : Feed) : Type 0 where
+  -- "scraps of any length": no more is taken than was given
   pub within : feeding c f .taken ≤ length (f .scrap)
   -- an answer for each that is counted, and none without room
   pub counted : length (answersTo c f) ≡ feeding c f .answered
   pub fits : feeding c f .answered ≤ f .room
+  -- the slice for the answers, with room for one in each four words: at its front the numbers of each answer; the words behind are unchanged
+  pub slice : (answers : List ℕ) → f .room ≡ length answers / 4
+      → feedWords (f .memory) (c .reader) (c .hart) (c .map) (f .scrap) answers
+      ≡ written replyNumbers (answersTo c f) ++ drop (4 * feeding c f .answered) answers
   -- bytes are left untaken only where the next one would complete a record that there is no room for
   pub full : feeding c f .taken < length (f .scrap)
       → (feeding c f .answered ≡ f .room) × (feeding c f .reader .stopped ≡ false) × (length (leftOf (feeding c f .reader)) ≡ 59)
@@ -55,11 +60,15 @@ pub record Taking (c : Held) (f : Feed) : Type 0 where
   -- "scraps of any length, also empty"
   pub empty : f .scrap ≡ [] → Unmoved c (feeding c f)
   -- "a carried count above 59 is read as 59"
-  pub capped : 59 < c .reader .count → feeding c f ≡ feeding (counting c 59) f
+  pub capped : 59 < c .reader .count → (feeding c f ≡ feeding (withCount c 59) f) × (answersTo c f ≡ answersTo (withCount c 59) f)
 
--- before the first byte nothing is carried, and the first record's number is 0
+-- "the record's number, from 0": that of the first record, before which nothing is carried
 pub record Starting : Type 0 where
   pub carries : length (newReader .carried) ≡ 59
   pub left : leftOf newReader ≡ []
   pub number : newReader .number ≡ 0
   pub stopped : newReader .stopped ≡ false
+
+-- the four words of refusal 8: 5 for a refusal, 8, "the record's number", and 0
+abbrev pub BrokenNumbers : Type 0
+BrokenNumbers = (number : ℕ) → replyNumbers (Broken number) ≡ 5 ∷ 8 ∷ number ∷ 0 ∷ []
