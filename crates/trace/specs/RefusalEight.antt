@@ -11,6 +11,8 @@ use Rattle.steps.specs.declared.Step.{Step}
 use Rattle.steps.specs.declared.Answer.the-variants.{Refused}
 use Rattle.steps.specs.Decode.{decoded, isAccess}
 use Rattle.paging.specs.Memory.{Memory}
+use Rattle.map.specs.declared.Map.{Map}
+use Rattle.hart.specs.declared.Hart.{Hart}
 use Rattle.hart.specs.Steps.{stepped}
 use Rattle.records.specs.Records.{recordOf, ignoresFirst, ignoresSecond, readStep}
 use Rattle.trace.specs.Replies.{Answered, Broken}
@@ -64,6 +66,8 @@ pub record RefusalEight (m : Memory) : Type 0 where
       → stepped (x .replay .hart) (x .replay .map) m s .answer ≡ Refused n
       → (byteReplies m x b ≡ Answered (Refused n) (isAccess s) ∷ [])
       × (afterByte m x b .replay .stopped ≡ false) × (afterByte m x b .replay .number ≡ (x .replay .number + 1) % 2 ^ 64)
+  -- no step of 01 answers refusal 8 itself: it is the reader's alone
+  pub own : (h : Hart) (map : Map) (s : Step) → stepped h map m s .answer ≡ Refused 8 → ⊥
   -- ---- any other byte
 
   -- "judged once all 60 bytes are there": before, a byte is kept and nothing else
