@@ -42,10 +42,9 @@ isAccess (Csr op number operand) = false
 isAccess (AccessStep access address size) = true
 isAccess (EventStep event) = false
 
--- of the step that numbers name, if they name one
-abbrev pub accessNamed : Decoded → Bool
-accessNamed (Formed s) = isAccess s
-accessNamed Nothing = false
+-- by their numbers
+abbrev pub namesAccess : ℕ → Bool
+namesAccess number = leb 14 number && leb number 16
 
 -- a list with the step in front, where there is one
 abbrev pub prepended : Decoded → List Step → List Step

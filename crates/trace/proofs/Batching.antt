@@ -249,13 +249,14 @@ module _ (m : Memory) where
 
     module _ {start : Replay} {out : List ℕ} {left : ℕ} (s : State) (remap : Bool) (map : Map) (number : ℕ) {filled at : ℕ}
         (turn : Turn start out left (carried s remap map number false) filled at) (more : 0 < left) {after : List ℕ} {next : ℕ} where
-      pub turn-formed : (step : Step) {x : State} {held : Bool} {t : Taken} {k : ℕ} {accessed : Bool} → held ≡ canHold s → t ≡ stepTaken held s m step
+      pub turn-formed : (step : Step) {x : State} {held : Bool} {t : Taken} {k : ℕ} {accessed again : Bool} → held ≡ canHold s → t ≡ stepTaken held s m step
           → x ≡ ruledBy held s m step .state → readStep (recordAt bytes at) ≡ Formed step → k ≡ (number + 1) % 2 ^ 64
-          → accessed ≡ isAccess step → Put out filled (textBy o (Answered (t .answer) accessed)) after next
-          → Turn start after (left - 1) (carried x (remap || t .remap) map k false) next (at + 60)
-      turn-formed step {x} {held} {t} {k} {accessed} h e f r i a put =
-          turn-next turn (carried x (remap || t .remap) map k false) (Answered (t .answer) accessed) more
-          (formed s step h e f remap map number (recordAt bytes at) r i a) put
+          → accessed ≡ isAccess step → t .remap ≡ again → Put out filled (textBy o (Answered (t .answer) accessed)) after next
+          → Turn start after (left - 1) (carried x (remap || again) map k false) next (at + 60)
+      turn-formed step {x} {held} {t} {k} {accessed} {again} h e f r i a g put =
+          let one = formed s step h e f remap map number (recordAt bytes at) r i a in
+          turn-next turn (carried x (remap || again) map k false) (Answered (t .answer) accessed) more
+          (one .0 ∙ (λ j. carried x (remap || g j) map k false), one .1) put
 
       pub turn-broken : readStep (recordAt bytes at) ≡ Nothing → Put out filled (textBy o (Broken number)) after next
           → Turn start after (left - 1) (carried s remap map number true) next (at + 60)

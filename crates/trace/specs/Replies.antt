@@ -4,6 +4,8 @@ use mathlib.Core.Bool.{Bool}
 use mathlib.Core.List.{List, [], _∷_, _++_}
 use Rattle.steps.specs.declared.Answer.{Answer}
 use Rattle.steps.specs.Number.{answerNumbers}
+use Rattle.engine.specs.declared.Told.{Told}
+use Rattle.trace.specs.declared.StepLeft.{StepLeft}
 use Rattle.trace.specs.declared.Output.{Output}
 use Rattle.trace.specs.declared.Output.the-variants.{Words, Lines}
 use Rattle.trace.specs.Answers.{answerLine, brokenLine}
@@ -45,3 +47,7 @@ target Lines words lines = lines
 abbrev pub spared : Output → List ℕ → List ℕ → List ℕ
 spared Words words lines = lines
 spared Lines words lines = words
+
+-- what a step leaves besides its answer
+abbrev pub toldBy : StepLeft → Told
+toldBy a = record { held = a .held; remap = a .remap }

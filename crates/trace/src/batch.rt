@@ -54,12 +54,22 @@ pub(crate) fn batch(
                 filled,
             };
         }
-        let taken = engine::step_named(words, memory, base, held, next.step, next.a, next.b);
-        let answer = taken.answer;
-        let accessed = steps::names_access(next.step, next.a, next.b);
-        filled = replies::put_answered(answer, accessed, output, answers, lines, filled);
-        held = taken.held;
-        remap = remap | taken.remap;
+        let told = replies::put_step(
+            words,
+            memory,
+            base,
+            held,
+            next.step,
+            next.a,
+            next.b,
+            output,
+            answers,
+            lines,
+            filled,
+        );
+        held = told.held;
+        remap = remap | told.remap;
+        filled = told.filled;
         number = std::num::wrapping_add_u64(number, 1);
         at = next.at;
     }

@@ -45,6 +45,13 @@ pub(crate) enum Output {
     Lines,
 }
 
+// What a step leaves besides the words of the hart: whether a hart can hold them, whether it asked for a fresh map, and the place behind its answer.
+pub(crate) struct StepLeft {
+    pub(crate) held: bool,
+    pub(crate) remap: bool,
+    pub(crate) filled: usize,
+}
+
 // What goes on from record to record besides the words of the hart: whether a hart can hold them, whether a step asked for a fresh map, the number of
 // the next record, whether a broken one ended the reading, and how much is written.
 pub(crate) struct Cursor {

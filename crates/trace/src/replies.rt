@@ -1,14 +1,17 @@
 // What is given out for a record, written as four words or as a line.
 use crate::Output;
+use crate::StepLeft;
 use crate::writer;
-use steps::Answer;
 ghost use mathlib.Core.Path.{_≡_};
 ghost use mathlib.Core.List.{[], _∷_};
 ghost use Prim.Native.Nat.{_+_, _≤_};
 ghost use lib.ListN.{length};
-ghost use Rattle.steps.specs.Number.{answerInterrupt, answerNumbers};
+ghost use Rattle.steps.specs.Decode.{decoded, namesAccess};
+ghost use Rattle.paging.specs.Memory.{memoryAt};
+ghost use Rattle.state.specs.Words.{stateOf};
+ghost use Rattle.engine.specs.Taking.{namedTaken, namedState, told};
 ghost use Rattle.trace.specs.Buffers.{Put};
-ghost use Rattle.trace.specs.Replies.{Answered, Broken, textBy, widthOf, target, spared};
+ghost use Rattle.trace.specs.Replies.{toldBy, Answered, Broken, textBy, widthOf, target, spared};
 
 // Writes four words from a place on and answers the place behind them.
 fn put_words(
@@ -29,30 +32,45 @@ fn put_words(
     place + 4
 }
 
-fn put_numbers(answer: Answer, answers: &mut [u64], place: usize) -> usize
-    requires { ⌜ (place + 4 ≤ length (now answers)) × (answerInterrupt answer ≡ 0) ⌝ }
-    ensures { λ r. ⌜ Put (now (answers .entry)) place (answerNumbers answer) (now (answers .exit)) r ⌝ }
-{
-    let words = steps::answer_words(answer);
-    put_words(words[0], words[1], words[2], words[3], answers, place)
-}
-
-// The answer to a step, which is an access or another. No step answers with an interrupt.
-pub(crate) fn put_answered(
-    answer: Answer,
-    accessed: bool,
+// The answer to the step that numbers name, whatever they name.
+pub(crate) fn put_step(
+    words: &mut [u64; 43],
+    memory: &[u64],
+    base: u64,
+    held: bool,
+    step: u64,
+    a: u64,
+    b: u64,
     output: Output,
     answers: &mut [u64],
     lines: &mut [u8],
     place: usize,
-) -> usize
-    requires { ⌜ (place + widthOf output ≤ length (target output (now answers) (now lines))) × (answerInterrupt answer ≡ 0) ⌝ }
-    ensures { λ r. ⌜ Put (target output (now (answers .entry)) (now (lines .entry))) place (textBy output (Answered answer accessed)) (target output (now (answers .exit)) (now (lines .exit))) r ⌝ }
+) -> StepLeft
+    requires { ⌜ place + widthOf output ≤ length (target output (now answers) (now lines)) ⌝ }
+    ensures { λ r. ⌜ told (namedTaken held (stateOf (now (words .entry))) (memoryAt (now (memory .entry)) base) (decoded step a b)) ≡ toldBy r ⌝ }
+    ensures { λ _. ⌜ stateOf (now (words .exit)) ≡ namedState held (stateOf (now (words .entry))) (memoryAt (now (memory .entry)) base) (decoded step a b) ⌝ }
+    ensures { λ r. ⌜ Put (target output (now (answers .entry)) (now (lines .entry))) place (textBy output (Answered (namedTaken held (stateOf (now (words .entry))) (memoryAt (now (memory .entry)) base) (decoded step a b) .answer) (namesAccess step))) (target output (now (answers .exit)) (now (lines .exit))) (r .filled) ⌝ }
     ensures { λ _. ⌜ spared output (now (answers .exit)) (now (lines .exit)) ≡ spared output (now (answers .entry)) (now (lines .entry)) ⌝ }
 {
     match output {
-        Output::Words => put_numbers(answer, answers, place),
-        Output::Lines => writer::put_answer(accessed, answer, lines, place),
+        Output::Words => {
+            let told = engine::step_into(words, memory, base, held, step, a, b, answers, place);
+            StepLeft {
+                held: told.held,
+                remap: told.remap,
+                filled: place + 4,
+            }
+        }
+        Output::Lines => {
+            let taken = engine::step_named(words, memory, base, held, step, a, b);
+            let answer = taken.answer;
+            let filled = writer::put_answer(steps::names_access(step), answer, lines, place);
+            StepLeft {
+                held: taken.held,
+                remap: taken.remap,
+                filled,
+            }
+        }
     }
 }
 

@@ -1,21 +1,22 @@
 -- What is left of the records does with the replay at hand what all of them do with the first, whatever the map. Assumes nothing.
-use Prim.Native.Nat.{ℕ, _+_, _-_, _≤_}
-use mathlib.Core.Path.{_≡_, refl, sym, ap, subst, _∙_}
+use Prim.Native.Nat.{_+_, _-_, _≤_}
+use mathlib.Core.Path.{_≡_, refl, sym, ap, _∙_}
 use mathlib.Core.Bool.{false}
 use native.Mathlib.Omega.{arith}
 use lib.ListN.{length, drop}
 use borrow.Author.Tests.{not-true, not-false}
 use borrow.Author.Needs.{needs}
-use Rattle.steps.specs.Decode.{accessNamed}
+use Rattle.steps.specs.Decode.{decoded, namesAccess}
+use Rattle.steps.proofs.AccessLaws.{access-number}
 use Rattle.map.specs.declared.Map.{Map}
+use Rattle.engine.specs.declared.Told.{Told}
 use Rattle.engine.specs.Taking.{stepTaken, namedTaken, namedState}
-use Rattle.records.proofs.Numbers.{Numbered}
 use Rattle.paging.specs.Memory.{Memory, memoryAt}
 use Rattle.state.specs.Hold.{canHold}
 use Rattle.state.specs.Words.{stateOf}
 use Rattle.trace.specs.Replies.{Answered, Broken, target, spared}
 use Rattle.trace.specs.Batches.{recordsOf, carried, carriedBy}
-use Rattle.trace.proofs.Batching.{recordAt, Room, Turn, both-long, read-behind, read-named, read-none, taken-plain, held-next, room-at, turn-at, room-here, room-next, turn-formed, turn-broken, turn-over, stopped-still, none-still, still-put, batched}
+use Rattle.trace.proofs.Batching.{Room, Turn, both-long, read-behind, read-named, read-none, held-next, room-at, turn-at, room-here, room-next, turn-formed, turn-broken, turn-over, stopped-still, none-still, still-put, batched}
 use Rattle.trace.proofs.batch.batch.Statement.{statement}
 use Rattle.trace.proofs.batch.batch.Tie as tie
 
@@ -129,63 +130,44 @@ returns-2 c =
       (o .inv .2, broken-spared p),
     )
 
--- the step that is taken, from where it was
-module _ (g : tie.After-step-named Inv-loop μ-loop) where
-  abbrev at-numbers : tie.After-read Inv-loop μ-loop
-  at-numbers = g .before .before .before .before
-
-  abbrev in-formed : tie.In-loop Inv-loop μ-loop
-  in-formed = at-numbers .before
-
-  formed-there : let n = at-numbers .read .result in Numbered (recordAt (begun (in-formed .before .before) .args .bytes .now) (in-formed .before .loop .at)) (n .step) (n .a) (n .b)
-  formed-there =
-      let o = in-formed .before .loop in
-      let a = begun (in-formed .before .before) .args in
-      read-named (a .bytes .now) (o .at) (inside in-formed) (at-numbers .read .ensures) (not-false _ (g .before .before .if2 .left))
-
-  taken-there : let o = in-formed .before .loop in
-      g .step-named .result ≡ stepTaken (o .held) (stateOf (o .words)) (lentBy (in-formed .before .before)) (formed-there .named)
-  taken-there =
-      let o = in-formed .before .loop in
-      g .step-named .ensures .0 ∙ ap (namedTaken (o .held) (stateOf (o .words)) (lentBy (in-formed .before .before))) (formed-there .formed)
-
-put-answered-requires : tie.Need-put-answered-requires Inv-loop μ-loop
-put-answered-requires c κs =
-    let g = c .before .before .before in
-    let i = in-formed g in
-    let o = i .before .loop in
+put-step-requires : tie.Need-put-step-requires Inv-loop μ-loop
+put-step-requires c κs =
+    let i = c .before .before .before .before .before .before in
     let e = i .before .before in
-    let a = begun e .args in (
-      room-here (lentBy e) (a .output) (a .bytes .now) (target (a .output) (a .answers .now) (a .lines .now)) (recordsOf (a .count) (drop (a .place) (a .bytes .now))) (a .start .filled)
-          (o .inv .0) (i .loop-test .taken),
-      taken-plain (o .held) (stateOf (o .words)) (lentBy e) (formed-there g .named) (taken-there g),
-    )
+    let a = begun e .args in
+    room-here (lentBy e) (a .output) (a .bytes .now) (target (a .output) (a .answers .now) (a .lines .now)) (recordsOf (a .count) (drop (a .place) (a .bytes .now))) (a .start .filled)
+    (i .before .loop .inv .0) (i .loop-test .taken)
 
 loop-again : tie.Need-loop-again Inv-loop μ-loop
 loop-again c =
     let p = c .before .before .before .before .before .before in
-    let q = p .before .before .before in
-    let g = q .before in
-    let i = in-formed g in
+    let f = p .before .before .before .before in
+    let r = f .before .before in
+    let i = r .before in
     let o = i .before .loop in
     let e = i .before .before in
     let a = begun e .args in
     let m = lentBy e in
+    let s = stateOf (o .words) in
     let texts = recordsOf (a .count) (drop (a .place) (a .bytes .now)) in
     let buffer = target (a .output) (a .answers .now) (a .lines .now) in
-    let there = formed-there g in
+    let n = r .read .result in
+    let there = read-named (a .bytes .now) (o .at) (inside i) (r .read .ensures) (not-false _ (f .if2 .left)) in
     let step = there .named in
-    let state = g .step-named .ensures .1 ∙ ap (namedState (o .held) (stateOf (o .words)) m) (there .formed) in
-    let behind = read-behind (a .bytes .now) (o .at) (inside i) (at-numbers g .read .ensures) in (
+    let t = namedTaken (o .held) s m (decoded (n .step) (n .a) (n .b)) in
+    let taken : t ≡ stepTaken (o .held) s m step = ap (namedTaken (o .held) s m) (there .formed) in
+    let state = p .put-step .ensures .1 .0 ∙ ap (namedState (o .held) s m) (there .formed) in
+    let put = p .put-step .ensures .1 .1 .0 in
+    let told = p .put-step .ensures .0 in
+    let behind = read-behind (a .bytes .now) (o .at) (inside i) (r .read .ensures) in (
       room-at m (a .output) (a .bytes .now) buffer texts (a .start .filled) behind
-          (room-next m (a .output) (a .bytes .now) buffer texts (a .start .filled) (o .inv .0) (i .loop-test .taken) (Answered (g .step-named .result .answer) (q .names-access .result))
-          (p .put-answered .ensures .0)),
-      p .put-answered .ensures .1 ∙ o .inv .1,
-      held-next m (stateOf (o .words)) step (o .inv .2) (taken-there g) state,
+          (room-next m (a .output) (a .bytes .now) buffer texts (a .start .filled) (o .inv .0) (i .loop-test .taken) (Answered (t .answer) (namesAccess (n .step))) put),
+      p .put-step .ensures .1 .1 .1 ∙ o .inv .1,
+      sym (ap (λ (x : Told). x .held) told) ∙ held-next m s step (o .inv .2) taken state,
       λ (map : Map).
           turn-at m (a .output) (a .bytes .now) buffer texts (a .start .filled) behind
-          (turn-formed m (a .output) (a .bytes .now) buffer texts (a .start .filled) (stateOf (o .words)) (o .remap) map (o .number) (o .inv .3 map) (i .loop-test .taken) step
-          (o .inv .2) (taken-there g) state (there .read) (c .wrapping-add-u64 .ensures) (q .names-access .ensures ∙ ap accessNamed (there .formed)) (p .put-answered .ensures .0)),
+          (turn-formed m (a .output) (a .bytes .now) buffer texts (a .start .filled) s (o .remap) map (o .number) (o .inv .3 map) (i .loop-test .taken) step
+          (o .inv .2) taken state (there .read) (c .wrapping-add-u64 .ensures) (access-number (n .step) (n .a) (n .b) (there .formed)) (ap (λ (x : Told). x .remap) told) put),
     )
 
 -- both buffers are as long as they were
@@ -230,9 +212,7 @@ batch-spec =
     same-length
     same-length-2
     returns-2
-    (λ c κs. search needs)
-    (λ c κs. search needs)
-    put-answered-requires
+    put-step-requires
     (λ c κs. search needs)
     (λ c. search needs)
     loop-again
