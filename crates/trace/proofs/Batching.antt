@@ -35,8 +35,6 @@ use Rattle.records.specs.Records.{readStep, readNumbers}
 use Rattle.records.proofs.Numbers.{Numbered, numbers-named, numbers-none}
 use Rattle.scrap.specs.declared.Numbers.{Numbers}
 use Rattle.scrap.specs.Places.{numbersBehind, recordAt as placed}
-use Rattle.trace.specs.declared.Output.{Output}
-use Rattle.trace.specs.declared.Output.the-variants.{Words, Lines}
 use Rattle.trace.specs.declared.Cursor.{Cursor}
 use Rattle.trace.specs.Buffers.{Put}
 use Rattle.trace.specs.Replies.{Reply, Answered, Broken, written, textBy, widthOf, target, spared}
@@ -94,10 +92,10 @@ one-less (suc n) w h =
 -- ---- the two buffers
 
 -- where one is as long as before and the other unchanged, both are as long as before
-pub both-long : (o : Output) (a l b k : List ℕ) → length (target o a l) ≡ length (target o b k) → spared o a l ≡ spared o b k
+pub both-long : (o : Bool) (a l b k : List ℕ) → length (target o a l) ≡ length (target o b k) → spared o a l ≡ spared o b k
     → (length a ≡ length b) × (length l ≡ length k)
-both-long Words a l b k t s = (t, ap length s)
-both-long Lines a l b k t s = (ap length s, t)
+both-long false a l b k t s = (t, ap length s)
+both-long true a l b k t s = (ap length s, t)
 
 -- each record is lent the same memory
 module _ (m : Memory) where
@@ -129,7 +127,7 @@ module _ (m : Memory) where
   none-still (suc n) r t h = absurd (omega arith)
 
   -- nothing is written for them
-  pub still-put : (o : Output) (r : Replay) (ts : List (List ℕ)) (buffer : List ℕ) (begin : ℕ) → Still r ts
+  pub still-put : (o : Bool) (r : Replay) (ts : List (List ℕ)) (buffer : List ℕ) (begin : ℕ) → Still r ts
       → Put buffer begin (written (textBy o) (recordsReplies m r ts)) buffer begin
   unfolding written
   still-put o r ts buffer begin still = record {
@@ -182,7 +180,7 @@ module _ (m : Memory) where
 
   -- ---- the loop
 
-  module _ (o : Output) (bytes before : List ℕ) (texts : List (List ℕ)) (begin : ℕ) where
+  module _ (o : Bool) (bytes before : List ℕ) (texts : List (List ℕ)) (begin : ℕ) where
     -- there are records enough, and room for what they give out
     pub record Room (out : List ℕ) (left filled at : ℕ) : Type 0 where
       pub within : at + 60 * left ≤ length bytes
@@ -268,7 +266,7 @@ module _ (m : Memory) where
 
   -- ---- the call
 
-  module _ (o : Output) (texts : List (List ℕ)) (map : Map) (start : Cursor) (before buffer : List ℕ) where
+  module _ (o : Bool) (texts : List (List ℕ)) (map : Map) (start : Cursor) (before buffer : List ℕ) where
     -- from the replay of a start that has not stopped
     pub batched : (end : Cursor) (words after : List ℕ) → start .stopped ≡ false →
         let first = carried (stateOf before) (start .remap) map (start .number) false in

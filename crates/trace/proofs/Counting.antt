@@ -7,7 +7,6 @@ use lib.ListN.{length, length-append}
 use Rattle.bits.specs.Fold.{fold, outputs}
 use Rattle.paging.specs.Memory.{Memory}
 use Rattle.records.specs.Records.{readStep}
-use Rattle.trace.specs.declared.Output.the-variants.{Lines}
 use Rattle.trace.specs.Replies.{replyLine, written}
 use Rattle.trace.specs.Reading.{Replay, Reading, reading, afterDecoded, replyTo, recordReplies, afterBytes, repliesTo}
 use Rattle.trace.proofs.OneByte.{byte-cases}
@@ -37,4 +36,4 @@ module _ (m : Memory) where
 
   -- one record may be begun before the bytes
   pub lines-room : (x : Reading) (bytes : List ℕ) → Kept x → length (written replyLine (repliesTo m x bytes)) ≤ 64 * (length bytes / 60 + 1)
-  lines-room x bytes k = omega (arith, written-length Lines (repliesTo m x bytes), replies-count x bytes, k .short)
+  lines-room x bytes k = omega (arith, written-length true (repliesTo m x bytes), replies-count x bytes, k .short)

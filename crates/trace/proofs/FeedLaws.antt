@@ -17,8 +17,6 @@ use Rattle.map.specs.declared.Map.{Map}
 use Rattle.hart.specs.declared.Hart.{Hart}
 use Rattle.hart.specs.declared.Mapped.{Mapped}
 use Rattle.hart.specs.Steps.{mapFor, hartWith}
-use Rattle.trace.specs.declared.Output.{Output}
-use Rattle.trace.specs.declared.Output.the-variants.{Words, Lines}
 use Rattle.trace.specs.declared.Reader.{Reader}
 use Rattle.trace.specs.declared.Cursor.{Cursor}
 use Rattle.trace.specs.declared.Opening.{Opening}
@@ -77,12 +75,12 @@ records-count m (suc n) r bytes =
       records-count m n after (drop 60 bytes),
     )
 
-most-filled : (o : Output) {filled l k n : ℕ} → filled ≡ 0 + l → l ≤ widthOf o * k → k ≤ n → filled ≤ widthOf o * n
-most-filled Words e h c = omega arith
-most-filled Lines e h c = omega arith
+most-filled : (o : Bool) {filled l k n : ℕ} → filled ≡ 0 + l → l ≤ widthOf o * k → k ≤ n → filled ≤ widthOf o * n
+most-filled false e h c = omega arith
+most-filled true e h c = omega arith
 
 -- what the first batch has filled
-pub batch-filled : (m : Memory) (o : Output) (n : ℕ) (bytes : List ℕ) (map : Map) (start : Cursor) (before buffer : List ℕ) (end : Cursor) (words after : List ℕ)
+pub batch-filled : (m : Memory) (o : Bool) (n : ℕ) (bytes : List ℕ) (map : Map) (start : Cursor) (before buffer : List ℕ) (end : Cursor) (words after : List ℕ)
     → start .filled ≡ 0 → Batched m o (recordsOf n bytes) map start before buffer end words after
     → (end .filled ≤ widthOf o * n) × (length after ≡ length buffer)
 batch-filled m o n bytes map start before buffer end words after z b =
@@ -91,10 +89,10 @@ batch-filled m o n bytes map start before buffer end words after z b =
       put-length (b .put),
     )
 
-pub room-left : (o : Output) {filled heads n room size : ℕ} → filled ≤ widthOf o * heads → heads ≤ room → n ≤ room - heads → widthOf o * room ≤ size
+pub room-left : (o : Bool) {filled heads n room size : ℕ} → filled ≤ widthOf o * heads → heads ≤ room → n ≤ room - heads → widthOf o * room ≤ size
     → filled + widthOf o * n ≤ size
-room-left Words f h k l = omega arith
-room-left Lines f h k l = omega arith
+room-left false f h k l = omega arith
+room-left true f h k l = omega arith
 
 -- ---- what is left
 
@@ -197,7 +195,7 @@ module _ (m : Memory) (carried : List ℕ) (kept : ℕ) (scrap : List ℕ) (end 
   closed-rest true = (refl, refl)
   closed-rest false = (refl, refl)
 
-module _ (m : Memory) (o : Output) (rd : Reader) (map : Map) (room : ℕ) (scrap before buffer : List ℕ) (size : length (rd .carried) ≡ 59) (held : Bool) where
+module _ (m : Memory) (o : Bool) (rd : Reader) (map : Map) (room : ℕ) (scrap before buffer : List ℕ) (size : length (rd .carried) ≡ 59) (held : Bool) where
   abbrev pub begin : Cursor
   begin = record { held = held; remap = false; number = rd .number; stopped = rd .stopped; filled = 0 }
 
@@ -243,7 +241,7 @@ module _ (m : Memory) (o : Output) (rd : Reader) (map : Map) (room : ℕ) (scrap
 -- ---- by value
 
 pub fed-value : (m : Memory) (rd : Reader) (h : Hart) (map : Map) (scrap answers : List ℕ) {words left after : List ℕ} {p : Progress} {back : Mapped} → stateOf words ≡ h .state
-    → FedBy m Words rd map (length answers / 4) scrap words answers p left after → back ≡ remade (stateOf left) (p .remap) map
+    → FedBy m false rd map (length answers / 4) scrap words answers p left after → back ≡ remade (stateOf left) (p .remap) map
     → (_≡_ {A = Fed} (record { reader = p .reader; hart = back .hart; map = back .map; taken = p .taken; answered = p .filled / 4 }) (fed m rd h map (length answers / 4) scrap))
     × (after ≡ feedWords m rd h map scrap answers)
 unfolding fed feedWords

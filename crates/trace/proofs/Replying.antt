@@ -1,6 +1,7 @@
 -- What is written for replies, one behind the other. Assumes nothing.
 use Prim.Native.Nat.{ℕ, _+_, _*_, _≤_}
 use mathlib.Core.Path.{_≡_, refl, sym, ap, _∙_}
+use mathlib.Core.Bool.{Bool, true, false}
 use mathlib.Core.List.{List, [], _∷_, _++_, append-assoc}
 use native.Mathlib.Omega.{arith}
 use native.Mathlib.Nat.{mul-suc, mul-zero}
@@ -8,8 +9,6 @@ use lib.ListN.{length, length-append}
 use Rattle.steps.specs.declared.Answer.{Answer}
 use Rattle.steps.specs.declared.Answer.the-variants.{Done, DoneValue, DoneFlag, Granted, Trapped, Refused}
 use Rattle.steps.specs.Number.{answerNumbers}
-use Rattle.trace.specs.declared.Output.{Output}
-use Rattle.trace.specs.declared.Output.the-variants.{Words, Lines}
 use Rattle.trace.specs.Replies.{Reply, Answered, Broken, replyNumbers, written, textBy, widthOf}
 use Rattle.trace.proofs.Writing.{answer-length, broken-length}
 
@@ -32,12 +31,12 @@ four-numbers (Answered answer accessed) = numbers-length answer
 four-numbers (Broken number) = refl
 
 -- and no line is longer than its room
-pub text-length : (o : Output) (r : Reply) → length (textBy o r) ≤ widthOf o
-text-length Words r = omega (arith, four-numbers r)
-text-length Lines (Answered answer accessed) = answer-length accessed answer
-text-length Lines (Broken number) = broken-length number
+pub text-length : (o : Bool) (r : Reply) → length (textBy o r) ≤ widthOf o
+text-length false r = omega (arith, four-numbers r)
+text-length true (Answered answer accessed) = answer-length accessed answer
+text-length true (Broken number) = broken-length number
 
-pub written-length : (o : Output) (rs : List Reply) → length (written (textBy o) rs) ≤ widthOf o * length rs
+pub written-length : (o : Bool) (rs : List Reply) → length (written (textBy o) rs) ≤ widthOf o * length rs
 unfolding written
 written-length o [] = omega (arith, mul-zero (widthOf o))
 written-length o (r ∷ rs) =

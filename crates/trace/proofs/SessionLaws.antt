@@ -14,7 +14,6 @@ use Rattle.paging.specs.Memory.{Memory}
 use Rattle.state.specs.Words.{stateOf}
 use Rattle.hart.specs.declared.Mapped.{Mapped}
 use Rattle.hart.specs.Steps.{hartWith}
-use Rattle.trace.specs.declared.Output.the-variants.{Lines}
 use Rattle.trace.specs.declared.Progress.{Progress}
 use Rattle.trace.specs.declared.Session.{Session}
 use Rattle.trace.specs.declared.Written.{Written}
@@ -94,7 +93,7 @@ module _ (m : Memory) where
     -- from what the reader does on the words of the hart, and the hart and map that are handed back
     module _ {p : Progress} {words left after : List ℕ} (h : s .more ≡ true) (big : length piece / 60 < length before / 64)
         (w : stateOf words ≡ s .hart .state)
-        (f : FedBy m Lines (s .reader) (s .map) (length before / 64) piece words before p left after) where
+        (f : FedBy m true (s .reader) (s .map) (length before / 64) piece words before p left after) where
       abbrev start : Reading
       start = readingOf (s .reader) (hartWith (stateOf words)) (s .map)
 

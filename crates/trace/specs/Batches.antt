@@ -10,7 +10,6 @@ use Rattle.state.specs.declared.State.{State}
 use Rattle.state.specs.Words.{stateOf}
 use Rattle.map.specs.declared.Map.{Map}
 use Rattle.hart.specs.Steps.{mapFor, hartWith}
-use Rattle.trace.specs.declared.Output.{Output}
 use Rattle.trace.specs.declared.Cursor.{Cursor}
 use Rattle.trace.specs.Buffers.{Put}
 use Rattle.trace.specs.Replies.{Reply, written, textBy}
@@ -36,11 +35,11 @@ abbrev pub carriedBy : Cursor → List ℕ → Map → Replay
 carriedBy c words map = carried (stateOf words) (c .remap) map (c .number) (c .stopped)
 
 -- what a batch does with a map that is given
-pub record Batched (m : Memory) (output : Output) (texts : List (List ℕ)) (map : Map) (start : Cursor) (before buffer : List ℕ)
+pub record Batched (m : Memory) (output : Bool) (texts : List (List ℕ)) (map : Map) (start : Cursor) (before buffer : List ℕ)
     (end : Cursor) (words after : List ℕ) : Type 0 where
   pub replay : afterRecords m (carriedBy start before map) texts ≡ carriedBy end words map
   pub put : Put buffer (start .filled) (written (textBy output) (recordsReplies m (carriedBy start before map) texts)) after (end .filled)
 
 -- no map is read, so it is any
-abbrev pub Batch : Memory → Output → List (List ℕ) → Cursor → List ℕ → List ℕ → Cursor → List ℕ → List ℕ → Type 0
+abbrev pub Batch : Memory → Bool → List (List ℕ) → Cursor → List ℕ → List ℕ → Cursor → List ℕ → List ℕ → Type 0
 Batch m output texts start before buffer end words after = (map : Map) → Batched m output texts map start before buffer end words after

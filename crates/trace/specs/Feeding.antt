@@ -11,8 +11,6 @@ use Rattle.map.specs.declared.Map.{Map}
 use Rattle.hart.specs.declared.Hart.{Hart}
 use Rattle.hart.specs.Steps.{mapFor, hartWith}
 use Rattle.trace.specs.Replies.{Reply, replyNumbers, written, textBy}
-use Rattle.trace.specs.declared.Output.{Output}
-use Rattle.trace.specs.declared.Output.the-variants.{Words}
 use Rattle.trace.specs.declared.Fed.{Fed}
 use Rattle.trace.specs.declared.Reader.{Reader}
 use Rattle.trace.specs.declared.Progress.{Progress}
@@ -61,7 +59,7 @@ module _ (m : Memory) where
   takenBy x room scrap = cond (afterFeed x room scrap .replay .stopped) (length scrap) (length (answerable x room scrap))
 
 -- what a feed on the words of a hart does with a map that is given; the fresh one, where it is asked for, is that of the words left
-pub record FedBy (m : Memory) (output : Output) (rd : Reader) (given : Map) (room : ℕ) (scrap before buffer : List ℕ)
+pub record FedBy (m : Memory) (output : Bool) (rd : Reader) (given : Map) (room : ℕ) (scrap before buffer : List ℕ)
     (p : Progress) (words after : List ℕ) : Type 0 where
   pub reader : p .reader ≡ readerOf (afterFeed m (readingOf rd (hartWith (stateOf before)) given) room scrap)
   pub hart : hartWith (stateOf words) ≡ afterFeed m (readingOf rd (hartWith (stateOf before)) given) room scrap .replay .hart
@@ -70,12 +68,12 @@ pub record FedBy (m : Memory) (output : Output) (rd : Reader) (given : Map) (roo
   pub put : Put buffer 0 (written (textBy output) (feedReplies m (readingOf rd (hartWith (stateOf before)) given) room scrap)) after (p .filled)
 
 -- no map is read, so it is any
-abbrev pub Feeds : Memory → Output → Reader → ℕ → List ℕ → List ℕ → List ℕ → Progress → List ℕ → List ℕ → Type 0
+abbrev pub Feeds : Memory → Bool → Reader → ℕ → List ℕ → List ℕ → List ℕ → Progress → List ℕ → List ℕ → Type 0
 Feeds m output rd room scrap before buffer p words after = (map : Map) → FedBy m output rd map room scrap before buffer p words after
 
 -- with a slice for the answers, four words each
 abbrev pub FeedsWords : Memory → Reader → List ℕ → List ℕ → List ℕ → Progress → List ℕ → List ℕ → Type 0
-FeedsWords m rd scrap before answers p words after = Feeds m Words rd (length answers / 4) scrap before answers p words after
+FeedsWords m rd scrap before answers p words after = Feeds m false rd (length answers / 4) scrap before answers p words after
 
 -- by value
 unfoldable pub fed : Memory → Reader → Hart → Map → ℕ → List ℕ → Fed

@@ -1,13 +1,11 @@
 -- What is given out for a record: the answer to its step, or refusal 8 with the record's number; and how that is written, in words or as a line.
 use Prim.Native.Nat.{ℕ}
-use mathlib.Core.Bool.{Bool}
+use mathlib.Core.Bool.{true, false, Bool}
 use mathlib.Core.List.{List, [], _∷_, _++_}
 use Rattle.steps.specs.declared.Answer.{Answer}
 use Rattle.steps.specs.Number.{answerNumbers}
 use Rattle.engine.specs.declared.Told.{Told}
 use Rattle.trace.specs.declared.StepLeft.{StepLeft}
-use Rattle.trace.specs.declared.Output.{Output}
-use Rattle.trace.specs.declared.Output.the-variants.{Words, Lines}
 use Rattle.trace.specs.Answers.{answerLine, brokenLine}
 
 pub data Reply : Type 0 where
@@ -31,22 +29,22 @@ written text (reply ∷ replies) = text reply ++ written text replies
 
 -- ---- by the kind of output: the text of a reply, its room, and the buffer that it is written to, of one for words and one for lines
 
-abbrev pub textBy : Output → Reply → List ℕ
-textBy Words = replyNumbers
-textBy Lines = replyLine
+abbrev pub textBy : Bool → Reply → List ℕ
+textBy false = replyNumbers
+textBy true = replyLine
 
-abbrev pub widthOf : Output → ℕ
-widthOf Words = 4
-widthOf Lines = 64
+abbrev pub widthOf : Bool → ℕ
+widthOf false = 4
+widthOf true = 64
 
-abbrev pub target : Output → List ℕ → List ℕ → List ℕ
-target Words words lines = words
-target Lines words lines = lines
+abbrev pub target : Bool → List ℕ → List ℕ → List ℕ
+target false words lines = words
+target true words lines = lines
 
 -- the buffer that is not written to
-abbrev pub spared : Output → List ℕ → List ℕ → List ℕ
-spared Words words lines = lines
-spared Lines words lines = words
+abbrev pub spared : Bool → List ℕ → List ℕ → List ℕ
+spared false words lines = lines
+spared true words lines = words
 
 -- what a step leaves besides its answer
 abbrev pub toldBy : StepLeft → Told

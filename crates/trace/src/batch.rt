@@ -1,6 +1,5 @@
 // Whole records, one behind the other: the only loop over records.
 use crate::Cursor;
-use crate::Output;
 use crate::replies;
 ghost use mathlib.Core.Path.{_≡_};
 ghost use Prim.Native.Nat.{_+_, _*_, _≤_};
@@ -20,17 +19,17 @@ pub(crate) fn batch(
     bytes: &[u8],
     place: usize,
     count: usize,
-    output: Output,
+    as_lines: bool,
     answers: &mut [u64],
     lines: &mut [u8],
     start: Cursor,
 ) -> Cursor
     requires { ⌜ place + 60 * count ≤ length (now bytes) ⌝ }
-    requires { ⌜ start .filled + widthOf output * count ≤ length (target output (now answers) (now lines)) ⌝ }
+    requires { ⌜ start .filled + widthOf as_lines * count ≤ length (target as_lines (now answers) (now lines)) ⌝ }
     requires { ⌜ start .held ≡ canHold (stateOf (now words)) ⌝ }
-    ensures { λ r. ⌜ Batch (memoryAt (now (memory .entry)) base) output (recordsOf count (drop place (now (bytes .entry)))) start (now (words .entry)) (target output (now (answers .entry)) (now (lines .entry))) r (now (words .exit)) (target output (now (answers .exit)) (now (lines .exit))) ⌝ }
+    ensures { λ r. ⌜ Batch (memoryAt (now (memory .entry)) base) as_lines (recordsOf count (drop place (now (bytes .entry)))) start (now (words .entry)) (target as_lines (now (answers .entry)) (now (lines .entry))) r (now (words .exit)) (target as_lines (now (answers .exit)) (now (lines .exit))) ⌝ }
     ensures { λ r. ⌜ r .held ≡ canHold (stateOf (now (words .exit))) ⌝ }
-    ensures { λ _. ⌜ spared output (now (answers .exit)) (now (lines .exit)) ≡ spared output (now (answers .entry)) (now (lines .entry)) ⌝ }
+    ensures { λ _. ⌜ spared as_lines (now (answers .exit)) (now (lines .exit)) ≡ spared as_lines (now (answers .entry)) (now (lines .entry)) ⌝ }
 {
     if start.stopped {
         return start;
@@ -45,7 +44,7 @@ pub(crate) fn batch(
         left -= 1;
         let next = scrap::read(bytes, at);
         if !next.named {
-            filled = replies::put_broken(number, output, answers, lines, filled);
+            filled = replies::put_broken(number, as_lines, answers, lines, filled);
             return Cursor {
                 held,
                 remap,
@@ -62,7 +61,7 @@ pub(crate) fn batch(
             next.step,
             next.a,
             next.b,
-            output,
+            as_lines,
             answers,
             lines,
             filled,

@@ -1,7 +1,6 @@
 // Feeding a reader a scrap: the record that the carried bytes begin, the whole records behind it, and the bytes short of one at the end.
 use crate::Cursor;
 use crate::Opening;
-use crate::Output;
 use crate::Progress;
 use crate::Reader;
 use crate::batch::batch;
@@ -120,13 +119,13 @@ pub(crate) fn read(
     base: u64,
     scrap: &[u8],
     room: usize,
-    output: Output,
+    as_lines: bool,
     answers: &mut [u64],
     lines: &mut [u8],
 ) -> Progress
-    requires { ⌜ widthOf output * room ≤ length (target output (now answers) (now lines)) ⌝ }
-    ensures { λ r. ⌜ Feeds (memoryAt (now (memory .entry)) base) output reader room (now (scrap .entry)) (now (words .entry)) (target output (now (answers .entry)) (now (lines .entry))) r (now (words .exit)) (target output (now (answers .exit)) (now (lines .exit))) ⌝ }
-    ensures { λ _. ⌜ spared output (now (answers .exit)) (now (lines .exit)) ≡ spared output (now (answers .entry)) (now (lines .entry)) ⌝ }
+    requires { ⌜ widthOf as_lines * room ≤ length (target as_lines (now answers) (now lines)) ⌝ }
+    ensures { λ r. ⌜ Feeds (memoryAt (now (memory .entry)) base) as_lines reader room (now (scrap .entry)) (now (words .entry)) (target as_lines (now (answers .entry)) (now (lines .entry))) r (now (words .exit)) (target as_lines (now (answers .exit)) (now (lines .exit))) ⌝ }
+    ensures { λ _. ⌜ spared as_lines (now (answers .exit)) (now (lines .exit)) ≡ spared as_lines (now (answers .entry)) (now (lines .entry)) ⌝ }
 {
     let carried = reader.carried;
     let count = capped(reader.count);
@@ -149,7 +148,7 @@ pub(crate) fn read(
         &text,
         0,
         heads,
-        output,
+        as_lines,
         answers,
         lines,
         start,
@@ -162,7 +161,7 @@ pub(crate) fn read(
         scrap,
         at,
         whole,
-        output,
+        as_lines,
         answers,
         lines,
         first,

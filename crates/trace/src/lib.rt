@@ -39,12 +39,6 @@ pub struct Progress {
     pub remap: bool,
 }
 
-// How answers are written: four words each to the one buffer, or a line each to the other.
-pub(crate) enum Output {
-    Words,
-    Lines,
-}
-
 // What a step leaves besides the words of the hart: whether a hart can hold them, whether it asked for a fresh map, and the place behind its answer.
 pub(crate) struct StepLeft {
     pub(crate) held: bool,

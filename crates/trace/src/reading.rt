@@ -1,6 +1,5 @@
 // The reader of a trace, fed scraps of any length.
 use crate::Fed;
-use crate::Output;
 use crate::Progress;
 use crate::Reader;
 use crate::feeding::capped;
@@ -58,7 +57,7 @@ impl Reader {
             base,
             scrap,
             room,
-            Output::Words,
+            false,
             answers,
             &mut lines,
         )

@@ -1,5 +1,5 @@
-// What is given out for a record, written as four words or as a line.
-use crate::Output;
+// What is given out for a record, written as four words to the one buffer, or as a line to the other. Which it is, is a number passed by value: a program that knows only one of them then has no
+// code of the other.
 use crate::StepLeft;
 use crate::writer;
 ghost use mathlib.Core.Path.{_≡_};
@@ -41,53 +41,50 @@ pub(crate) fn put_step(
     step: u64,
     a: u64,
     b: u64,
-    output: Output,
+    as_lines: bool,
     answers: &mut [u64],
     lines: &mut [u8],
     place: usize,
 ) -> StepLeft
-    requires { ⌜ place + widthOf output ≤ length (target output (now answers) (now lines)) ⌝ }
+    requires { ⌜ place + widthOf as_lines ≤ length (target as_lines (now answers) (now lines)) ⌝ }
     ensures { λ r. ⌜ told (namedTaken held (stateOf (now (words .entry))) (memoryAt (now (memory .entry)) base) (decoded step a b)) ≡ toldBy r ⌝ }
     ensures { λ _. ⌜ stateOf (now (words .exit)) ≡ namedState held (stateOf (now (words .entry))) (memoryAt (now (memory .entry)) base) (decoded step a b) ⌝ }
-    ensures { λ r. ⌜ Put (target output (now (answers .entry)) (now (lines .entry))) place (textBy output (Answered (namedTaken held (stateOf (now (words .entry))) (memoryAt (now (memory .entry)) base) (decoded step a b) .answer) (namesAccess step))) (target output (now (answers .exit)) (now (lines .exit))) (r .filled) ⌝ }
-    ensures { λ _. ⌜ spared output (now (answers .exit)) (now (lines .exit)) ≡ spared output (now (answers .entry)) (now (lines .entry)) ⌝ }
+    ensures { λ r. ⌜ Put (target as_lines (now (answers .entry)) (now (lines .entry))) place (textBy as_lines (Answered (namedTaken held (stateOf (now (words .entry))) (memoryAt (now (memory .entry)) base) (decoded step a b) .answer) (namesAccess step))) (target as_lines (now (answers .exit)) (now (lines .exit))) (r .filled) ⌝ }
+    ensures { λ _. ⌜ spared as_lines (now (answers .exit)) (now (lines .exit)) ≡ spared as_lines (now (answers .entry)) (now (lines .entry)) ⌝ }
 {
-    match output {
-        Output::Words => {
-            let told = engine::step_into(words, memory, base, held, step, a, b, answers, place);
-            StepLeft {
-                held: told.held,
-                remap: told.remap,
-                filled: place + 4,
-            }
-        }
-        Output::Lines => {
-            let taken = engine::step_named(words, memory, base, held, step, a, b);
-            let answer = taken.answer;
-            let filled = writer::put_answer(steps::names_access(step), answer, lines, place);
-            StepLeft {
-                held: taken.held,
-                remap: taken.remap,
-                filled,
-            }
-        }
+    if as_lines {
+        let taken = engine::step_named(words, memory, base, held, step, a, b);
+        let answer = taken.answer;
+        let filled = writer::put_answer(steps::names_access(step), answer, lines, place);
+        return StepLeft {
+            held: taken.held,
+            remap: taken.remap,
+            filled,
+        };
+    }
+    let told = engine::step_into(words, memory, base, held, step, a, b, answers, place);
+    StepLeft {
+        held: told.held,
+        remap: told.remap,
+        filled: place + 4,
     }
 }
 
 // Refusal 8, with the record's number.
 pub(crate) fn put_broken(
     number: u64,
-    output: Output,
+    as_lines: bool,
     answers: &mut [u64],
     lines: &mut [u8],
     place: usize,
 ) -> usize
-    requires { ⌜ place + widthOf output ≤ length (target output (now answers) (now lines)) ⌝ }
-    ensures { λ r. ⌜ Put (target output (now (answers .entry)) (now (lines .entry))) place (textBy output (Broken number)) (target output (now (answers .exit)) (now (lines .exit))) r ⌝ }
-    ensures { λ _. ⌜ spared output (now (answers .exit)) (now (lines .exit)) ≡ spared output (now (answers .entry)) (now (lines .entry)) ⌝ }
+    requires { ⌜ place + widthOf as_lines ≤ length (target as_lines (now answers) (now lines)) ⌝ }
+    ensures { λ r. ⌜ Put (target as_lines (now (answers .entry)) (now (lines .entry))) place (textBy as_lines (Broken number)) (target as_lines (now (answers .exit)) (now (lines .exit))) r ⌝ }
+    ensures { λ _. ⌜ spared as_lines (now (answers .exit)) (now (lines .exit)) ≡ spared as_lines (now (answers .entry)) (now (lines .entry)) ⌝ }
 {
-    match output {
-        Output::Words => put_words(5, 8, number, 0, answers, place),
-        Output::Lines => writer::put_broken(number, lines, place),
+    if as_lines {
+        writer::put_broken(number, lines, place)
+    } else {
+        put_words(5, 8, number, 0, answers, place)
     }
 }

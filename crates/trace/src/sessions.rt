@@ -1,5 +1,4 @@
 // A trace in pieces, for a program: what goes on from one piece to the next, and what is written for each.
-use crate::Output;
 use crate::Reader;
 use crate::Session;
 use crate::Written;
@@ -91,7 +90,7 @@ impl Session {
             base,
             piece,
             room,
-            Output::Lines,
+            true,
             &mut answers,
             out,
         );

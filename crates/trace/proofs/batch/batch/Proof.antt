@@ -47,12 +47,12 @@ returns c =
     let s = c .before .before .before .before .before in
     let a = s .args in
     let m = memoryAt (a .memory .now) (a .base) in
-    let buffer = target (a .output) (a .answers .now) (a .lines .now) in
+    let buffer = target (a .as-lines) (a .answers .now) (a .lines .now) in
     let texts = recordsOf (a .count) (drop (a .place) (a .bytes .now)) in (
       (λ (map : Map).
           let r = carriedBy (a .start) (a .words .now) map in
           let still = stopped-still m r (c .if1 .taken) texts in
-          record { replay = still .0; put = still-put m (a .output) r texts buffer (a .start .filled) still }),
+          record { replay = still .0; put = still-put m (a .as-lines) r texts buffer (a .start .filled) still }),
       (s .pre .1 .1, refl),
     )
 
@@ -70,7 +70,7 @@ put-broken-requires c κs =
     let i = c .before .before .before .before .before in
     let e = i .before .before in
     let a = begun e .args in
-    room-here (lentBy e) (a .output) (a .bytes .now) (target (a .output) (a .answers .now) (a .lines .now)) (recordsOf (a .count) (drop (a .place) (a .bytes .now))) (a .start .filled)
+    room-here (lentBy e) (a .as-lines) (a .bytes .now) (target (a .as-lines) (a .answers .now) (a .lines .now)) (recordsOf (a .count) (drop (a .place) (a .bytes .now))) (a .start .filled)
     (i .before .loop .inv .0) (i .loop-test .taken)
 
 -- the record lies in the bytes
@@ -86,24 +86,24 @@ module _ (p : tie.After-put-broken Inv-loop μ-loop) where
   in-broken = at-read .before
 
   broken-next : let o = in-broken .before .loop in let e = in-broken .before .before in let a = begun e .args in
-      Room (lentBy e) (a .output) (a .bytes .now) (target (a .output) (a .answers .now) (a .lines .now)) (recordsOf (a .count) (drop (a .place) (a .bytes .now))) (a .start .filled)
-      (target (a .output) (p .put-broken .last .1 .1 .0) (p .put-broken .last .1 .1 .1 .0)) (o .left - 1) (p .put-broken .result) (o .at + 60)
+      Room (lentBy e) (a .as-lines) (a .bytes .now) (target (a .as-lines) (a .answers .now) (a .lines .now)) (recordsOf (a .count) (drop (a .place) (a .bytes .now))) (a .start .filled)
+      (target (a .as-lines) (p .put-broken .last .1 .1 .0) (p .put-broken .last .1 .1 .1 .0)) (o .left - 1) (p .put-broken .result) (o .at + 60)
   broken-next =
       let o = in-broken .before .loop in
       let e = in-broken .before .before in
       let a = begun e .args in
-      room-next (lentBy e) (a .output) (a .bytes .now) (target (a .output) (a .answers .now) (a .lines .now)) (recordsOf (a .count) (drop (a .place) (a .bytes .now))) (a .start .filled)
+      room-next (lentBy e) (a .as-lines) (a .bytes .now) (target (a .as-lines) (a .answers .now) (a .lines .now)) (recordsOf (a .count) (drop (a .place) (a .bytes .now))) (a .start .filled)
       (o .inv .0) (in-broken .loop-test .taken) (Broken (o .number)) (p .put-broken .ensures .0)
 
   broken-spared : let a = begun (in-broken .before .before) .args in
-      spared (a .output) (p .put-broken .last .1 .1 .0) (p .put-broken .last .1 .1 .1 .0) ≡ spared (a .output) (a .answers .now) (a .lines .now)
+      spared (a .as-lines) (p .put-broken .last .1 .1 .0) (p .put-broken .last .1 .1 .1 .0) ≡ spared (a .as-lines) (a .answers .now) (a .lines .now)
   broken-spared = p .put-broken .ensures .1 ∙ in-broken .before .loop .inv .1
 
   broken-longs : let a = begun (in-broken .before .before) .args in
       (length (p .put-broken .last .1 .1 .0) ≡ length (a .answers .now)) × (length (p .put-broken .last .1 .1 .1 .0) ≡ length (a .lines .now))
   broken-longs =
       let a = begun (in-broken .before .before) .args in
-      both-long (a .output) (p .put-broken .last .1 .1 .0) (p .put-broken .last .1 .1 .1 .0) (a .answers .now) (a .lines .now) (broken-next .same) broken-spared
+      both-long (a .as-lines) (p .put-broken .last .1 .1 .0) (p .put-broken .last .1 .1 .1 .0) (a .answers .now) (a .lines .now) (broken-next .same) broken-spared
 
 same-length : tie.Need-same-length Inv-loop μ-loop
 same-length c = broken-longs (c .before .before .before .before) .0
@@ -120,13 +120,13 @@ returns-2 c =
     let a = begun e .args in
     let m = lentBy e in
     let texts = recordsOf (a .count) (drop (a .place) (a .bytes .now)) in
-    let buffer = target (a .output) (a .answers .now) (a .lines .now) in
+    let buffer = target (a .as-lines) (a .answers .now) (a .lines .now) in
     let none = read-none (a .bytes .now) (o .at) (inside i) (at-read p .read .ensures) (not-true _ (p .before .before .before .if2 .taken)) in (
       (λ (map : Map).
-          let turn = turn-broken m (a .output) (a .bytes .now) buffer texts (a .start .filled) (stateOf (o .words)) (o .remap) map (o .number) (o .inv .3 map)
+          let turn = turn-broken m (a .as-lines) (a .bytes .now) buffer texts (a .start .filled) (stateOf (o .words)) (o .remap) map (o .number) (o .inv .3 map)
           (i .loop-test .taken) none (p .put-broken .ensures .0) in
-          let over = turn-over m (a .output) (a .bytes .now) buffer texts (a .start .filled) turn (stopped-still m _ refl _) in
-          batched m (a .output) texts map (a .start) (a .words .now) buffer _ (o .words) _ (e .if1 .left) over),
+          let over = turn-over m (a .as-lines) (a .bytes .now) buffer texts (a .start .filled) turn (stopped-still m _ refl _) in
+          batched m (a .as-lines) texts map (a .start) (a .words .now) buffer _ (o .words) _ (e .if1 .left) over),
       (o .inv .2, broken-spared p),
     )
 
@@ -135,7 +135,7 @@ put-step-requires c κs =
     let i = c .before .before .before .before .before .before in
     let e = i .before .before in
     let a = begun e .args in
-    room-here (lentBy e) (a .output) (a .bytes .now) (target (a .output) (a .answers .now) (a .lines .now)) (recordsOf (a .count) (drop (a .place) (a .bytes .now))) (a .start .filled)
+    room-here (lentBy e) (a .as-lines) (a .bytes .now) (target (a .as-lines) (a .answers .now) (a .lines .now)) (recordsOf (a .count) (drop (a .place) (a .bytes .now))) (a .start .filled)
     (i .before .loop .inv .0) (i .loop-test .taken)
 
 loop-again : tie.Need-loop-again Inv-loop μ-loop
@@ -150,7 +150,7 @@ loop-again c =
     let m = lentBy e in
     let s = stateOf (o .words) in
     let texts = recordsOf (a .count) (drop (a .place) (a .bytes .now)) in
-    let buffer = target (a .output) (a .answers .now) (a .lines .now) in
+    let buffer = target (a .as-lines) (a .answers .now) (a .lines .now) in
     let n = r .read .result in
     let there = read-named (a .bytes .now) (o .at) (inside i) (r .read .ensures) (not-false _ (f .if2 .left)) in
     let step = there .named in
@@ -160,13 +160,13 @@ loop-again c =
     let put = p .put-step .ensures .1 .1 .0 in
     let told = p .put-step .ensures .0 in
     let behind = read-behind (a .bytes .now) (o .at) (inside i) (r .read .ensures) in (
-      room-at m (a .output) (a .bytes .now) buffer texts (a .start .filled) behind
-          (room-next m (a .output) (a .bytes .now) buffer texts (a .start .filled) (o .inv .0) (i .loop-test .taken) (Answered (t .answer) (namesAccess (n .step))) put),
+      room-at m (a .as-lines) (a .bytes .now) buffer texts (a .start .filled) behind
+          (room-next m (a .as-lines) (a .bytes .now) buffer texts (a .start .filled) (o .inv .0) (i .loop-test .taken) (Answered (t .answer) (namesAccess (n .step))) put),
       p .put-step .ensures .1 .1 .1 ∙ o .inv .1,
       sym (ap (λ (x : Told). x .held) told) ∙ held-next m s step (o .inv .2) taken state,
       λ (map : Map).
-          turn-at m (a .output) (a .bytes .now) buffer texts (a .start .filled) behind
-          (turn-formed m (a .output) (a .bytes .now) buffer texts (a .start .filled) s (o .remap) map (o .number) (o .inv .3 map) (i .loop-test .taken) step
+          turn-at m (a .as-lines) (a .bytes .now) buffer texts (a .start .filled) behind
+          (turn-formed m (a .as-lines) (a .bytes .now) buffer texts (a .start .filled) s (o .remap) map (o .number) (o .inv .3 map) (i .loop-test .taken) step
           (o .inv .2) taken state (there .read) (c .wrapping-add-u64 .ensures) (access-number (n .step) (n .a) (n .b) (there .formed)) (ap (λ (x : Told). x .remap) told) put),
     )
 
@@ -176,7 +176,7 @@ longs : (c : tie.After-loop Inv-loop μ-loop) → let o = c .before .loop in let
 longs c =
     let o = c .before .loop in
     let a = begun (c .before .before) .args in
-    both-long (a .output) (o .answers) (o .lines) (a .answers .now) (a .lines .now) (o .inv .0 .same) (o .inv .1)
+    both-long (a .as-lines) (o .answers) (o .lines) (a .answers .now) (a .lines .now) (o .inv .0 .same) (o .inv .1)
 
 same-length-3 : tie.Need-same-length-3 Inv-loop μ-loop
 same-length-3 c = longs c .0
@@ -191,10 +191,10 @@ returns-3 c =
     let a = begun e .args in
     let m = lentBy e in
     let texts = recordsOf (a .count) (drop (a .place) (a .bytes .now)) in
-    let buffer = target (a .output) (a .answers .now) (a .lines .now) in (
+    let buffer = target (a .as-lines) (a .answers .now) (a .lines .now) in (
       (λ (map : Map).
-          let over = turn-over m (a .output) (a .bytes .now) buffer texts (a .start .filled) (o .inv .3 map) (none-still m (o .left) _ (drop (o .at) (a .bytes .now)) (c .loop-test .left)) in
-          batched m (a .output) texts map (a .start) (a .words .now) buffer _ (o .words) _ (e .if1 .left) over),
+          let over = turn-over m (a .as-lines) (a .bytes .now) buffer texts (a .start .filled) (o .inv .3 map) (none-still m (o .left) _ (drop (o .at) (a .bytes .now)) (c .loop-test .left)) in
+          batched m (a .as-lines) texts map (a .start) (a .words .now) buffer _ (o .words) _ (e .if1 .left) over),
       (o .inv .2, o .inv .1),
     )
 

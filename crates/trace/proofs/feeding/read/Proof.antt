@@ -42,7 +42,7 @@ batch-requires c κs =
     let size : length (b .args .words .now) ≡ 43 = search needs in (
       omega (arith, f .text),
       (
-        room-left (b .args .output) {filled = 0} {heads = 0} (omega arith) (omega arith) (omega (arith, f .heads)) (b .pre),
+        room-left (b .args .as-lines) {filled = 0} {heads = 0} (omega arith) (omega arith) (omega (arith, f .heads)) (b .pre),
         h .words-can-hold .ensures ∙ ap canHold (all-loaded (b .args .words .now) size),
       ),
     )
@@ -80,10 +80,10 @@ batch-requires-2 c κs =
     let a = s .args in
     let r = o .«open» .result in
     let within = wholes-within w in
-    let filled = batch-filled (memoryAt (a .memory .now) (a .base)) (a .output) (r .heads) (r .text) some _ _ _ _ _ _ refl (b .batch .ensures .0 some) in (
+    let filled = batch-filled (memoryAt (a .memory .now) (a .base)) (a .as-lines) (r .heads) (r .text) some _ _ _ _ _ _ refl (b .batch .ensures .0 some) in (
       within .1,
       (
-        room-left (a .output) (filled .0) (fits o .heads) (within .0) (omega (arith, s .pre, filled .1)),
+        room-left (a .as-lines) (filled .0) (fits o .heads) (within .0) (omega (arith, s .pre, filled .1)),
         b .batch .ensures .1 .0,
       ),
     )
@@ -113,7 +113,7 @@ returns c =
     let a = start o .args in
     let size = sized (start o) in (
       (λ (map : Map).
-          fed-by (memoryAt (a .memory .now) (a .base)) (a .output) (a .reader) map (a .room) (a .scrap .now) (a .words .now) (target (a .output) (a .answers .now) (a .lines .now)) size
+          fed-by (memoryAt (a .memory .now) (a .base)) (a .as-lines) (a .reader) map (a .room) (a .scrap .now) (a .words .now) (target (a .as-lines) (a .answers .now) (a .lines .now)) size
           (h .words-can-hold .result) (o .before .capped .ensures) (o .«open» .ensures) (b .batch .ensures .0 map) (w .wholes .ensures) (t .batch2 .ensures .0 map) (c .close .ensures)),
       t .batch2 .ensures .1 .1 ∙ b .batch .ensures .1 .1,
     )

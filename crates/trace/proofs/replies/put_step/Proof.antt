@@ -14,36 +14,21 @@ use Rattle.trace.proofs.Replying.{four-numbers}
 use Rattle.trace.proofs.replies.put_step.Statement.{statement}
 use Rattle.trace.proofs.replies.put_step.Tie as tie
 
-add-t20 : tie.Need-add-t20
-add-t20 c =
-    let o = c .before .before .before .before .before in
-    search (needs, rw (o .enum-told .given .1) at (o .before .before .before .before .before .pre))
-
 put-answer-requires : tie.Need-put-answer-requires
 put-answer-requires c κs =
     let o = c .before .before .before .before in
-    rw (o .enum-told2 .given .1) at (o .before .before .before .before .before .pre)
+    rw (o .if1 .taken) at (o .before .before .before .before .pre)
 
 returns : tie.Need-returns
 returns c =
-    let k = c .before .before in
-    let o = k .before .before .before in
-    let a = o .before .before .before .before .before .args in
-    let e = k .step-into .ensures in
-    let t = namedTaken (a .held) (stateOf (a .words .now)) (memoryAt (a .memory .now) (a .base)) (decoded (a .step) (a .a) (a .b)) in
-    rw (o .enum-told .given .1)
-    (sym (e .0), (e .1 .0, (record { bytes = e .1 .1; behind = ap (λ (n : ℕ). a .place + n) (sym (four-numbers (Answered (t .answer) (namesAccess (a .step))))) }, refl)))
-
-returns-2 : tie.Need-returns-2
-returns-2 c =
     let p = c .before .before in
     let n = p .before .before in
     let t = n .before in
     let o = t .before .before in
-    let a = o .before .before .before .before .before .args in
+    let a = o .before .before .before .before .args in
     let e = t .step-named .ensures in
     let put = p .put-answer .ensures in
-    rw (o .enum-told2 .given .1) (
+    rw (o .if1 .taken) (
       sym (ap told (e .0)),
       (
         e .1,
@@ -57,18 +42,31 @@ returns-2 c =
       ),
     )
 
+add-t24 : tie.Need-add-t24
+add-t24 c =
+    let o = c .before .before .before .before .before in
+    search (needs, rw (o .if1 .left) at (o .before .before .before .before .pre))
+
+returns-2 : tie.Need-returns-2
+returns-2 c =
+    let k = c .before .before in
+    let o = k .before .before .before in
+    let a = o .before .before .before .before .args in
+    let e = k .step-into .ensures in
+    let t = namedTaken (a .held) (stateOf (a .words .now)) (memoryAt (a .memory .now) (a .base)) (decoded (a .step) (a .a) (a .b)) in
+    rw (o .if1 .left)
+    (sym (e .0), (e .1 .0, (record { bytes = e .1 .1; behind = ap (λ (n : ℕ). a .place + n) (sym (four-numbers (Answered (t .answer) (namesAccess (a .step))))) }, refl)))
+
 pub put-step-spec : {M : Type 1} → statement M
 put-step-spec =
     tie.close
     (tie.spec
-    (λ c. search needs)
-    (λ c κs. search needs)
-    add-t20
-    (λ c. search needs)
     (λ c κs. search needs)
     (λ c κs. search needs)
     put-answer-requires
     (λ c. search needs)
     returns
+    (λ c κs. search needs)
+    add-t24
     (λ c. search needs)
     returns-2)
