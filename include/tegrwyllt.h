@@ -48,7 +48,8 @@
  * with 16 lower-case hexadecimal digits and a line feed. Arguments that the step does
  * not use are 0. It may come in scraps of any length, cut anywhere: however it is cut,
  * and whatever room there is for answers, these are the same in the end, and so are
- * the hart, the map and the reader, where each record is lent the same memory.
+ * the hart, the map, the number of the next record, whether the reader has stopped and
+ * the bytes left over, where each record is lent the same memory.
  *
  * A reader of a trace is 59 bytes and a place. The bytes are those of a record that
  * is not whole yet, and 0 behind them. The place is four words: how many bytes they
@@ -86,8 +87,8 @@ extern "C" {
 #define TEGRWYLLT_NO_ENTRY 16
 
 /*
- * What save, restore and convert give where the form is neither 1 nor 2, or the hart or the map has another length; and what
- * feed and left give where a length or the word that tells whether the reader has stopped is another.
+ * What save, restore and convert give where the form is neither 1 nor 2, or the hart or the map has another length; what feed gives where a
+ * length is another, or the word that tells whether the reader has stopped; and what left gives where the length is another.
  */
 #define TEGRWYLLT_MISFIT UINT64_MAX
 

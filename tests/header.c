@@ -156,6 +156,7 @@ static void traces(void) {
     cut.place[2] = start.place[2] = 2;
     expect(feed_of(&cut, bytes, CARRIED, PLACE, HART, MAP, 4) == TEGRWYLLT_MISFIT, "neither stopped nor not");
     expect(memcmp(&cut, &start, sizeof cut) == 0, "nor then");
+    expect(tegrwyllt_left(cut.place, PLACE) == 0, "left takes any word but 0 for stopped");
     expect(tegrwyllt_left(cut.place, 3) == TEGRWYLLT_MISFIT && tegrwyllt_left(cut.place, 5) == TEGRWYLLT_MISFIT, "no place has another length");
 }
 

@@ -16,7 +16,7 @@ use Rattle.capi.specs.Calls.{hartOf, fits, misfit}
 unfoldable pub isPlace : List ℕ → Bool
 isPlace place = cond (eqb (length place) 4) (leb (getD place 2 0) 1) false
 
--- any other than 0 stands for refusal 8
+-- a feed is given no other word than 0 or 1; for `left` any but 0 stands for refusal 8
 abbrev pub stoppedIn : List ℕ → Bool
 stoppedIn place = not (eqb (getD place 2 0) 0)
 

@@ -43,7 +43,7 @@ readSession read = sessionFrom (read .hart) (read .map) (refusalOf (read .answer
 unfoldable pub textSession : List ℕ → Session
 textSession text = readSession (readAnew (formByLength text) text)
 
--- a full piece has 1,024 records
+-- a full piece has 61,440 bytes, as many as 1,024 records have
 abbrev pub fullPiece : ℕ
 fullPiece = 61440
 
