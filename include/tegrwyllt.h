@@ -38,10 +38,29 @@
  *   3 0 0 entry         granted
  *   4 cause mode entry  trapped, with the destination mode
  *   5 number            refused
+ *   5 8 record          refused, with the number of a broken record (of a feed)
  *   6 cause 0 entry     fault (of a query)
  * The entry is the one that decided on the access, 0 to 15, or 16 for none: that
  * of the last check, be it of the access or of a page-table read. A page fault, an
  * entry outside the memory and a trap that comes from no access have none.
+ *
+ * A trace is records of 60 bytes, a step each: three lines, step=, a= and b=, each
+ * with 16 lower-case hexadecimal digits and a line feed. Arguments that the step does
+ * not use are 0. It may come in scraps of any length, cut anywhere: however it is cut,
+ * and whatever room there is for answers, these are the same in the end, and so are
+ * the hart, the map, the number of the next record, whether the reader has stopped and
+ * the bytes left over, where each record is lent the same memory.
+ *
+ * A reader of a trace is 59 bytes and a place. The bytes are those of a record that
+ * is not whole yet, and 0 behind them. The place is four words: how many bytes they
+ * are, 59 if it is more; the number of the next record, from 0 modulo 2^64; 1 if the
+ * reader has stopped, else 0; and the number of answers that the last feed wrote. All
+ * zeros are a reader before the first byte.
+ *
+ * A record with another line, a step above 17, or an unused argument that is not 0 is
+ * broken: refusal 8, judged once all its 60 bytes are there, whose answer is the words
+ * 5, 8, the record's number and 0. The reader has stopped then: it takes all later bytes
+ * and ignores them, it carries none, and its number stays that of the broken record.
  */
 #ifndef TEGRWYLLT_H
 #define TEGRWYLLT_H
@@ -57,6 +76,9 @@ extern "C" {
 #define TEGRWYLLT_MAP_WORDS 100
 #define TEGRWYLLT_STEP_WORDS 3
 #define TEGRWYLLT_ANSWER_WORDS 4
+#define TEGRWYLLT_RECORD_BYTES 60
+#define TEGRWYLLT_CARRIED_BYTES 59
+#define TEGRWYLLT_PLACE_WORDS 4
 #define TEGRWYLLT_FIRST_FORM 1
 #define TEGRWYLLT_SECOND_FORM 2
 #define TEGRWYLLT_FIRST_TEXT_BYTES 1027
@@ -64,7 +86,10 @@ extern "C" {
 #define TEGRWYLLT_NO_OWNER 16
 #define TEGRWYLLT_NO_ENTRY 16
 
-/* What save, restore and convert give where the form is neither 1 nor 2, or the hart or the map has another length. */
+/*
+ * What save, restore and convert give where the form is neither 1 nor 2, or the hart or the map has another length; what feed gives where a
+ * length is another, or the word that tells whether the reader has stopped; and what left gives where the length is another.
+ */
 #define TEGRWYLLT_MISFIT UINT64_MAX
 
 /*
@@ -139,6 +164,33 @@ uint64_t tegrwyllt_restore(uint64_t form,
 uint64_t tegrwyllt_convert(uint64_t to,
                            const uint8_t *text, size_t text_length,
                            uint8_t *buffer, size_t buffer_length);
+
+/*
+ * Feeds a scrap of a trace, also an empty one, to a reader. The hart steps at each
+ * record that becomes whole, with the memory lent now; what the step answers, be it a
+ * refusal, is the next four words of answers, whose number is a multiple of four.
+ * Words behind those of the last answer are left as they are.
+ *
+ * Gives how many bytes it took: all of them, or, where there is no room for the answer
+ * of a record, those before its last byte. A stopped reader takes all. The caller goes
+ * on with the bytes behind those taken, and room for an answer at least. Gives
+ * TEGRWYLLT_MISFIT, and changes nothing, where a length is another, or the reader is
+ * said to have stopped by another word than 0 or 1.
+ */
+uint64_t tegrwyllt_feed(uint8_t *carried, size_t carried_length,
+                        uint64_t *place, size_t place_length,
+                        uint64_t *hart, size_t hart_length,
+                        uint64_t *map, size_t map_length,
+                        const uint64_t *memory, size_t memory_length,
+                        uint64_t base,
+                        const uint8_t *scrap, size_t scrap_length,
+                        uint64_t *answers, size_t answers_length);
+
+/*
+ * The bytes short of a record that a reader has left over, 59 at most, and 0 if it has
+ * stopped; or TEGRWYLLT_MISFIT where the length is another.
+ */
+uint64_t tegrwyllt_left(const uint64_t *place, size_t place_length);
 
 #ifdef __cplusplus
 }

@@ -1,4 +1,4 @@
-/* Each function of the archive through the header: values worked out by hand from the scope document and requests [5], [8] and [9]. */
+/* Each function of the archive through the header: values worked out by hand from the scope document and requests [1], [5], [8] and [9]. */
 #include <inttypes.h>
 #include <stdio.h>
 #include <stdlib.h>
@@ -6,7 +6,7 @@
 
 #include "tegrwyllt.h"
 
-enum { HART = 43, MAP = 100, ANSWER = 4, TEXT = 1027, SECOND = 1094 };
+enum { HART = 43, MAP = 100, ANSWER = 4, TEXT = 1027, SECOND = 1094, RECORD = 60, CARRIED = 59, PLACE = 4 };
 
 static void expect(int holds, const char *what) {
     if (!holds) {
@@ -63,6 +63,101 @@ static void grains(void) {
     expect(tegrwyllt_save(1, hart, HART, text, TEXT) == 3, "refusal 3, before 12");
     expect(tegrwyllt_step(hart, HART, map, MAP, none, 0, 0, 11, 0, 0, answer, ANSWER) == 1 && answers(answer, 5, 3, 0, 0), "and at a step");
     expect(tegrwyllt_step(hart, HART, map, MAP, none, 0, 0, 0, 0, 0, answer, ANSWER) == 1 && hart[GRAIN] == 0, "reset");
+}
+
+/* A reader with its hart and map, and the answers of a whole trace. */
+struct reader {
+    uint8_t carried[64]; /* 59, and some behind that no feed is lent */
+    uint64_t place[PLACE], hart[HART], map[MAP], given[8 * ANSWER];
+    size_t answered;
+};
+
+/* Feeds all the bytes in pieces of a length, each with room for so many answers, or for one where that takes no byte. */
+static void in_pieces(struct reader *reader, const uint8_t *bytes, size_t length, size_t piece, size_t room) {
+    for (size_t at = 0; at < length;) {
+        const size_t rest = length - at, given = rest < piece ? rest : piece;
+        uint64_t *answers = reader->given + ANSWER * reader->answered;
+        uint64_t taken = tegrwyllt_feed(reader->carried, CARRIED, reader->place, PLACE, reader->hart, HART, reader->map, MAP, none, 0, 0,
+                                        bytes + at, given, answers, ANSWER * room);
+        expect(taken <= given && reader->place[3] <= room, "no more is taken and answered than there is");
+        if (taken == 0) {
+            expect(room == 0 && tegrwyllt_left(reader->place, PLACE) == CARRIED, "only a 60th byte waits for room");
+            taken = tegrwyllt_feed(reader->carried, CARRIED, reader->place, PLACE, reader->hart, HART, reader->map, MAP, none, 0, 0,
+                                   bytes + at, given, answers, ANSWER);
+            expect(taken > 0 && reader->place[3] == 1, "it has an answer");
+        }
+        at += taken;
+        reader->answered += reader->place[3];
+    }
+}
+
+/* One feed of a record, with slices of these lengths. */
+static uint64_t feed_of(struct reader *reader, const uint8_t *bytes, size_t carried, size_t place, size_t hart, size_t map, size_t answers) {
+    return tegrwyllt_feed(reader->carried, carried, reader->place, place, reader->hart, hart, reader->map, map, none, 0, 0, bytes, RECORD,
+                          reader->given, answers);
+}
+
+/* A trace of six records in scraps: W1's entry, an access to it, a refused step, a broken record, and one that is not read. */
+static void traces(void) {
+    static const char text[] = "step=0000000000000001\na=00000000000003b0\nb=0000000000000003\n"
+                               "step=0000000000000001\na=00000000000003a0\nb=0000000000000090\n"
+                               "step=000000000000000f\na=0000000000000008\nb=0000000000000008\n"
+                               "step=000000000000000f\na=0000000000000008\nb=0000000000000003\n"
+                               "step=000000000000000b\na=0000000000000000\nb=0000000000000001\n"
+                               "step=0000000000000000\na=0000000000000000\nb=0000000000000000\n";
+    const uint8_t *bytes = (const uint8_t *)text;
+    const size_t length = sizeof text - 1;
+    struct reader start = {0}, whole, cut;
+    expect(length == 6 * RECORD, "60 bytes a record");
+    expect(tegrwyllt_make(0, start.hart, HART, start.map, MAP) == 1, "a hart to feed");
+    memset(start.given, 0x55, sizeof start.given);
+    start.place[1] = UINT64_MAX - 3;
+
+    /* In one piece: the fifth record, of number 0, has an argument that ECALL does not use. */
+    whole = start;
+    in_pieces(&whole, bytes, length, length, 8);
+    expect(whole.answered == 5, "five answers");
+    expect(answers(whole.given + 4, 1, 0, 0, 0) && answers(whole.given + 8, 4, 5, 3, 0), "a write is done, the load faults by entry 0");
+    expect(answers(whole.given + 12, 5, 1, 0, 0), "a refused step is an answer, and reading goes on");
+    expect(answers(whole.given + 16, 5, 8, 0, 0), "refusal 8 with the record's number, which wraps");
+    expect(whole.given[20] == start.given[20], "no answer more");
+    expect(whole.place[0] == 0 && whole.place[1] == 0 && whole.place[2] == 1, "stopped at the broken record");
+    expect(tegrwyllt_left(whole.place, PLACE) == 0, "nothing is left over");
+    expect(whole.map[0] == 3 && whole.map[4] == 0xC && whole.map[6] == 0, "the map has the entry's bytes, and no reset was read");
+
+    /* In odd pieces, with room for few answers or none. */
+    for (size_t piece = 1; piece <= 130; piece++) {
+        for (size_t room = 0; room < 3; room++) {
+            cut = start;
+            in_pieces(&cut, bytes, length, piece, room);
+            whole.place[3] = cut.place[3];
+            expect(memcmp(&cut, &whole, sizeof cut) == 0, "the same however cut");
+        }
+    }
+
+    /* A record is judged with its last byte; what is short of one is left over. */
+    cut = start;
+    in_pieces(&cut, bytes, 4 * RECORD + 59, 77, 1);
+    expect(cut.answered == 4 && cut.place[0] == 59 && cut.place[1] == 0 && cut.place[2] == 0, "59 bytes of a broken record");
+    expect(tegrwyllt_left(cut.place, PLACE) == 59 && memcmp(cut.carried, bytes + 4 * RECORD, 59) == 0, "are left over");
+    cut.place[0] = UINT64_MAX;
+    expect(tegrwyllt_left(cut.place, PLACE) == 59, "a count above 59 is 59");
+    in_pieces(&cut, bytes + 4 * RECORD + 59, 1, 1, 1);
+    expect(answers(cut.given + 16, 5, 8, 0, 0) && cut.carried[0] == 0, "the 60th");
+
+    /* Another length, or a reader that has neither stopped nor not, changes nothing. */
+    cut = start;
+    expect(feed_of(&cut, bytes, 58, PLACE, HART, MAP, 4) == TEGRWYLLT_MISFIT, "58 bytes are not carried");
+    expect(feed_of(&cut, bytes, CARRIED, 3, HART, MAP, 4) == TEGRWYLLT_MISFIT, "three words are no place");
+    expect(feed_of(&cut, bytes, CARRIED, PLACE, HART - 1, MAP, 4) == TEGRWYLLT_MISFIT, "42 words are no hart");
+    expect(feed_of(&cut, bytes, CARRIED, PLACE, HART, MAP - 1, 4) == TEGRWYLLT_MISFIT, "99 words are no map");
+    expect(feed_of(&cut, bytes, CARRIED, PLACE, HART, MAP, 6) == TEGRWYLLT_MISFIT, "an answer and a half");
+    expect(memcmp(&cut, &start, sizeof cut) == 0, "nothing is changed");
+    cut.place[2] = start.place[2] = 2;
+    expect(feed_of(&cut, bytes, CARRIED, PLACE, HART, MAP, 4) == TEGRWYLLT_MISFIT, "neither stopped nor not");
+    expect(memcmp(&cut, &start, sizeof cut) == 0, "nor then");
+    expect(tegrwyllt_left(cut.place, PLACE) == 0, "left takes any word but 0 for stopped");
+    expect(tegrwyllt_left(cut.place, 3) == TEGRWYLLT_MISFIT && tegrwyllt_left(cut.place, 5) == TEGRWYLLT_MISFIT, "no place has another length");
 }
 
 int main(void) {
@@ -159,6 +254,7 @@ int main(void) {
     expect(tegrwyllt_restore(2, second, SECOND, back, HART, ranges, MAP) == 0 && memcmp(hart, back, sizeof hart) == 0, "and is read back");
     expect(tegrwyllt_convert(1, second, SECOND, again, TEXT) == 12, "converting has no other place for it");
     grains();
+    traces();
     puts("header: every function answers as the scope document says");
     return 0;
 }

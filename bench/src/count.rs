@@ -4,17 +4,20 @@
 use std::error::Error;
 use std::hint::black_box;
 
+use crate::feeds::Feeds;
 use crate::mixes::{MIXES, Mix};
 use crate::queries::Queries;
 use crate::steps;
 use crate::texts::{CALLS, Call, Texts};
 
-/// `work` is `query`, the word of a call on texts, or a mix's number.
+/// `work` is `query`, `feed`, the word of a call on texts, or a mix's number.
 pub fn count(work: &str, contender: &str, times: &str) -> Result<(), Box<dyn Error>> {
     let times = times.parse()?;
     let mix = || MIXES.iter().find(|mix| mix.number.to_string() == work);
     let done = if work == "query" {
         query(contender, times)
+    } else if work == "feed" {
+        feed(contender, times)
     } else if let Some(call) = CALLS.iter().find(|call| call.word == work) {
         text(call, contender, times)
     } else {
@@ -35,6 +38,20 @@ fn query(contender: &str, times: usize) -> Option<()> {
         "rust" => _ = black_box(queries.by_map(times)),
         "bytes" => _ = black_box(queries.by_bytes(times)),
         "product" => _ = black_box(queries.by_product(times)),
+        _ => return None,
+    }
+    Some(())
+}
+
+/// The most records that can be fed: the trace is the same for any number of them.
+const RECORDS: usize = 16_384;
+
+fn feed(contender: &str, times: usize) -> Option<()> {
+    let feeds = Feeds::new(RECORDS);
+    match contender {
+        "rust" => _ = black_box(feeds.by_records(times)),
+        "bytes" => _ = black_box(feeds.byte_by_byte(times)),
+        "product" => _ = black_box(feeds.by_product(times)),
         _ => return None,
     }
     Some(())

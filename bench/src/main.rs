@@ -8,6 +8,7 @@ mod checksum;
 mod contest;
 mod count;
 mod csr_table;
+mod feeds;
 mod mixes;
 mod one_pass;
 mod processor;
@@ -111,7 +112,7 @@ fn report_replay(rounds: u32) -> Result<(), Box<dyn Error>> {
         replays::RECORDS
     );
     println!("|---|---|---|---|---|");
-    let rows = replays::rows(rounds)?;
+    let (rows, fed) = replays::rows(rounds)?;
     for row in &rows {
         println!(
             "| {} | {:.2} | {:.2} million | {:.0} | {} |",
@@ -122,5 +123,17 @@ fn report_replay(rounds: u32) -> Result<(), Box<dyn Error>> {
             row.memory,
         );
     }
+    println!(
+        "\n| The same records in scraps of {} bytes | Rust | Rust, byte by byte | tegrwyllt_feed | tegrwyllt_feed over replay |",
+        feeds::SCRAP
+    );
+    println!("|---|---|---|---|---|");
+    println!(
+        "| a record | {:.0} | {} | {} | {:.2} |",
+        fed.rust,
+        ratio(fed.byte_by_byte, fed.rust),
+        ratio(fed.product, fed.rust),
+        fed.product / fed.replay,
+    );
     Ok(())
 }

@@ -1,8 +1,9 @@
-//! Replay of a long trace, by the product's program and by the reference's.
+//! Replay of a long trace, by the product's program and by the reference's, and the same
+//! trace fed in scraps.
 
 use std::error::Error;
 use std::fs::{self, File};
-use std::io::{BufWriter, Write};
+use std::io::Write;
 use std::path::{Path, PathBuf};
 use std::process::{Command, Stdio};
 use std::thread::sleep;
@@ -12,8 +13,9 @@ use reference::random::Random;
 use reference::{Hart, Map, Memory, RECORD_LENGTH, Step, generate, step, write_record};
 
 use crate::contest::{Work, contest};
+use crate::feeds::Feeds;
 use crate::mixes::formed;
-use crate::processor::in_programs;
+use crate::processor::{here, in_programs};
 
 const PRODUCT: &str = "target/bin/replay";
 const REFERENCE: &str = "bench/target/release/replay_reference";
@@ -30,25 +32,46 @@ pub struct Row {
     pub memory: u64,
 }
 
-/// The reference's row, then the product's.
-pub fn rows(rounds: u32) -> Result<[Row; 2], Box<dyn Error>> {
+/// Nanoseconds a record of the trace fed in scraps.
+pub struct FeedRow {
+    pub rust: f64,
+    pub byte_by_byte: f64,
+    pub product: f64,
+    /// Those of the product's program `replay`.
+    pub replay: f64,
+}
+
+/// The reference's row, then the product's, and that of feeds: all are timed in turn.
+pub fn rows(rounds: u32) -> Result<([Row; 2], FeedRow), Box<dyn Error>> {
     let folder = Folder::new()?;
     let trace = folder.0.join("trace");
-    make_trace(&trace)?;
+    let feeds = Feeds::new(RECORDS);
+    fs::write(&trace, &feeds.trace)?;
     compare(&folder.0, &trace)?;
-    let mut contenders: [Work<'_>; 2] = [
+    feeds.compare()?;
+    let mut contenders: [Work<'_>; 5] = [
         Box::new(|| {
             in_programs(|| replay(REFERENCE, &trace, Stdio::null()).expect("replayed before"))
         }),
         Box::new(|| {
             in_programs(|| replay(PRODUCT, &trace, Stdio::null()).expect("replayed before"))
         }),
+        Box::new(|| here(|| feeds.by_records(RECORDS))),
+        Box::new(|| here(|| feeds.byte_by_byte(RECORDS))),
+        Box::new(|| here(|| feeds.by_product(RECORDS))),
     ];
     let best = contest(rounds.min(MOST_ROUNDS), &mut contenders);
     let row = |name, program, time: Duration| -> Result<Row, Box<dyn Error>> {
         Ok(Row { name, time: time.as_secs_f64(), memory: peak_memory(program, &trace)? })
     };
-    Ok([row("replay_reference", REFERENCE, best[0])?, row("replay", PRODUCT, best[1])?])
+    let each = |time: Duration| time.as_secs_f64() * 1e9 / RECORDS as f64;
+    let fed = FeedRow {
+        rust: each(best[2]),
+        byte_by_byte: each(best[3]),
+        product: each(best[4]),
+        replay: each(best[1]),
+    };
+    Ok(([row("replay_reference", REFERENCE, best[0])?, row("replay", PRODUCT, best[1])?], fed))
 }
 
 /// A folder that goes away with its value.
@@ -70,16 +93,16 @@ impl Drop for Folder {
 }
 
 /// Random steps from reset, each drawn for the hart that the ones before leave.
-fn make_trace(path: &Path) -> Result<(), Box<dyn Error>> {
-    let mut file = BufWriter::new(File::create(path)?);
+pub fn trace(records: usize) -> Vec<u8> {
+    let mut bytes = Vec::with_capacity(RECORD_LENGTH * records);
     let mut random = Random::new(SEED);
     let (mut hart, mut map) = (Hart::reset(), Map::reset());
-    for _ in 0..RECORDS {
+    for _ in 0..records {
         let next: Step = formed(generate::step(&mut random, &hart, &map));
         step(&mut hart, &mut map, Memory::EMPTY, next);
-        file.write_all(&write_record(next.to_words()))?;
+        bytes.extend(write_record(next.to_words()));
     }
-    Ok(file.flush()?)
+    bytes
 }
 
 fn replay(program: &str, trace: &Path, output: Stdio) -> Result<(), Box<dyn Error>> {

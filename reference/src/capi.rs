@@ -83,6 +83,26 @@ unsafe extern "C" {
         buffer: *mut u8,
         buffer_length: usize,
     ) -> u64;
+
+    fn tegrwyllt_feed(
+        carried: *mut u8,
+        carried_length: usize,
+        place: *mut u64,
+        place_length: usize,
+        hart: *mut u64,
+        hart_length: usize,
+        map: *mut u64,
+        map_length: usize,
+        memory: *const u64,
+        memory_length: usize,
+        base: u64,
+        scrap: *const u8,
+        scrap_length: usize,
+        answers: *mut u64,
+        answers_length: usize,
+    ) -> u64;
+
+    fn tegrwyllt_left(place: *const u64, place_length: usize) -> u64;
 }
 
 /// Makes a hart and its map; 1, or 0 where a length is none there is.
@@ -174,7 +194,8 @@ pub fn query(hart: &[u64], map: &[u64], question: Question, answer: &mut [u64]) 
     }
 }
 
-/// What the calls on texts give where a form or a length is none there is.
+/// What the calls on texts and traces give where a form, a length or the word that tells
+/// whether a reader has stopped is none there is.
 pub const MISFIT: u64 = u64::MAX;
 
 /// Saves a hart in a form; 0, the number of the refusal, or `MISFIT`.
@@ -200,4 +221,40 @@ pub fn restore(form: u64, text: &[u8], hart: &mut [u64], map: &mut [u64]) -> u64
 /// Writes a text of the other form in this one; gives the same.
 pub fn convert(to: u64, text: &[u8], buffer: &mut [u8]) -> u64 {
     unsafe { tegrwyllt_convert(to, text.as_ptr(), text.len(), buffer.as_mut_ptr(), buffer.len()) }
+}
+
+/// Feeds a scrap of a trace to a reader; the bytes taken, or `MISFIT`.
+pub fn feed(
+    carried: &mut [u8],
+    place: &mut [u64],
+    hart: &mut [u64],
+    map: &mut [u64],
+    memory: Memory,
+    scrap: &[u8],
+    answers: &mut [u64],
+) -> u64 {
+    unsafe {
+        tegrwyllt_feed(
+            carried.as_mut_ptr(),
+            carried.len(),
+            place.as_mut_ptr(),
+            place.len(),
+            hart.as_mut_ptr(),
+            hart.len(),
+            map.as_mut_ptr(),
+            map.len(),
+            memory.words.as_ptr(),
+            memory.words.len(),
+            memory.base,
+            scrap.as_ptr(),
+            scrap.len(),
+            answers.as_mut_ptr(),
+            answers.len(),
+        )
+    }
+}
+
+/// The bytes short of a record that a reader has left over, or `MISFIT`.
+pub fn left(place: &[u64]) -> u64 {
+    unsafe { tegrwyllt_left(place.as_ptr(), place.len()) }
 }

@@ -3,13 +3,13 @@
 use std::io::{self, Read, Write};
 
 use crate::answer::{Answer, Cause, Entry, Refusal};
-use crate::execute::step;
 use crate::form::Form;
 use crate::hart::{Hart, Mode};
 use crate::hexadecimal::word_digits;
 use crate::map::{Map, NONE, Range};
 use crate::memory::Memory;
-use crate::record::{RECORD_LENGTH, read_record};
+use crate::reader::{Reader, Reading};
+use crate::record::RECORD_LENGTH;
 use crate::step::Step;
 use crate::text::{restore, save};
 
@@ -46,19 +46,20 @@ fn replay_records(
     input: &mut impl Read,
     output: &mut impl Write,
 ) -> io::Result<usize> {
+    let mut reader = Reader::START;
     let mut record = [0; RECORD_LENGTH];
-    let mut number: u64 = 0;
     loop {
         let length = fill(input, &mut record)?;
         if length < RECORD_LENGTH {
             return Ok(length);
         }
-        let Some(next) = read_record(&record) else {
-            writeln!(output, "refused {} record {number}", Refusal::Record.number())?;
-            return Ok(0);
-        };
-        write_answer(output, next, step(hart, map, memory, next))?;
-        number = number.wrapping_add(1);
+        match reader.take_record(hart, map, memory, &record) {
+            Reading::Stepped(step, answer) => write_answer(output, step, answer)?,
+            Reading::Broken(number) => {
+                writeln!(output, "refused {} record {number}", Refusal::Record.number())?;
+                return Ok(0);
+            }
+        }
     }
 }
 

@@ -35,6 +35,11 @@ Leaves l result hart map answers = (result ≡ l .result) × ((hart ≡ l .hart)
 abbrev pub runTest : List ℕ → List ℕ → List ℕ → List ℕ → Bool
 runTest hart map steps answers = fits hart map && (answersFit steps answers && nameSteps steps)
 
+-- a fresh map, or the one that lies in the words
+pub chosen-map : (map : List ℕ) → length map ≡ 100 → (b : Bool) (n : Map) → cond b (mapWords n) map ≡ mapWords (cond b n (mapOfWords map))
+chosen-map map h true n = refl
+chosen-map map h false n = sym (map-words-back map h)
+
 module _ (hart map : List ℕ) (m : Memory) (steps answers : List ℕ) where
   pub unmade : runTest hart map steps answers ≡ false → Leaves (runCall hart map m steps answers) 0 hart map answers
   unfolding runCall
@@ -58,10 +63,6 @@ module _ (hart map : List ℕ) (m : Memory) (steps answers : List ℕ) where
 
     pub map-fits : length map ≡ 100
     map-fits = parts .1
-
-    chosen : (b : Bool) (n : Map) → cond b (mapWords n) map ≡ mapWords (cond b n (mapOfWords map))
-    chosen true n = refl
-    chosen false n = sym (map-words-back map map-fits)
 
     -- what the engine's run gave: all of it is known, since the call's tests are stronger than the run's
     ran-is : ran hart m steps answers
@@ -89,7 +90,7 @@ module _ (hart map : List ℕ) (m : Memory) (steps answers : List ℕ) where
           (
             ex ∙ ap (λ (q : Ran). q .words) ran-is ∙ ap (λ (g : Mapped). wordsOf (g .hart .state)) (sym l),
             (
-              ez ∙ (λ j. cond (c j) (mapWords (mapFor (p j))) map) ∙ chosen (anyRemaps s (lent m (stepsOf steps))) (mapFor (afterAll s (lent m (stepsOf steps)) .pmp))
+              ez ∙ (λ j. cond (c j) (mapWords (mapFor (p j))) map) ∙ chosen-map map map-fits (anyRemaps s (lent m (stepsOf steps))) (mapFor (afterAll s (lent m (stepsOf steps)) .pmp))
                   ∙ ap (λ (g : Mapped). mapWords (g .map)) (sym l),
               ey ∙ ap (λ (q : Ran). q .answers) ran-is
                   ∙ ap (λ (a : List ℕ). sets answers 0 a) (sym (answers-are (hartOf hart) (mapOfWords map) (lent m (stepsOf steps)))),

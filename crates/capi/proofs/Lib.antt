@@ -4,3 +4,4 @@ pub mod CallLaws
 pub mod QueryLaws
 pub mod MakeLaws
 pub mod SaveLaws
+pub mod FeedLaws

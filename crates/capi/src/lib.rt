@@ -1,5 +1,6 @@
 // The interface for C: harts, maps, steps and answers as 43, 100, three and four words. A call whose slices have another length changes nothing. A memory
 // of page tables is words that stand at a physical address; it may have any length.
+mod feeding;
 mod maps;
 mod query;
 
@@ -7,6 +8,7 @@ use hart::Hart;
 use map::Map;
 use map::Range;
 use text::Form;
+use trace::Reader;
 ghost use mathlib.Core.Path.{_≡_};
 ghost use mathlib.Core.Bool.{_&&_};
 ghost use lib.Dec.{eqb, leb};
@@ -16,6 +18,7 @@ ghost use Rattle.paging.specs.Memory.{memoryAt};
 ghost use Rattle.state.specs.Words.{wordsOf};
 ghost use Rattle.map.specs.MapWords.{mapWords};
 ghost use Rattle.capi.specs.Calls.{makeResult, madeHart, madeMap, stepCall, runCall, queryResult, queryAnswered, isForm, formOf, saveResult, savedText};
+ghost use Rattle.capi.specs.Feeds.{feedCall, leftCall};
 ghost use Rattle.capi.specs.Calls.{restoreResult, restoredHart, restoredMap, convertResult, convertedText};
 
 fn fit(hart: usize, map: usize) -> bool
@@ -211,4 +214,56 @@ pub extern "C" fn tegrwyllt_convert(to: u64, text: &[u8], buffer: &mut [u8]) -> 
         return MISFIT;
     }
     steps::refusal_of(hart::convert(form_of(to), text, buffer))
+}
+
+// Feeds a scrap of a trace to a reader: each full record steps the hart, with the memory lent to it, and has an answer of four words. As many bytes are taken as
+// there is room to answer, and from a broken record on every byte. The number of bytes taken, or 2^64-1 where a length or the stopped word is another.
+#[no_mangle]
+pub extern "C" fn tegrwyllt_feed(
+    carried: &mut [u8],
+    place: &mut [u64],
+    hart: &mut [u64],
+    map: &mut [u64],
+    memory: &[u64],
+    base: u64,
+    scrap: &[u8],
+    answers: &mut [u64],
+) -> u64
+    ensures { λ r. ⌜ r ≡ feedCall (now (carried .entry)) (now (place .entry)) (now (hart .entry)) (now (map .entry)) (memoryAt (now (memory .entry)) base) (now (scrap .entry)) (now (answers .entry)) .result ⌝ }
+    ensures { λ _. ⌜ now (carried .exit) ≡ feedCall (now (carried .entry)) (now (place .entry)) (now (hart .entry)) (now (map .entry)) (memoryAt (now (memory .entry)) base) (now (scrap .entry)) (now (answers .entry)) .carried ⌝ }
+    ensures { λ _. ⌜ now (place .exit) ≡ feedCall (now (carried .entry)) (now (place .entry)) (now (hart .entry)) (now (map .entry)) (memoryAt (now (memory .entry)) base) (now (scrap .entry)) (now (answers .entry)) .place ⌝ }
+    ensures { λ _. ⌜ now (hart .exit) ≡ feedCall (now (carried .entry)) (now (place .entry)) (now (hart .entry)) (now (map .entry)) (memoryAt (now (memory .entry)) base) (now (scrap .entry)) (now (answers .entry)) .hart ⌝ }
+    ensures { λ _. ⌜ now (map .exit) ≡ feedCall (now (carried .entry)) (now (place .entry)) (now (hart .entry)) (now (map .entry)) (memoryAt (now (memory .entry)) base) (now (scrap .entry)) (now (answers .entry)) .map ⌝ }
+    ensures { λ _. ⌜ now (answers .exit) ≡ feedCall (now (carried .entry)) (now (place .entry)) (now (hart .entry)) (now (map .entry)) (memoryAt (now (memory .entry)) base) (now (scrap .entry)) (now (answers .entry)) .answers ⌝ }
+{
+    if !(fit(hart.len(), map.len())
+        & ((carried.len() == 59) & (feeding::is_place(place) & (answers.len() % 4 == 0)))) {
+        return MISFIT;
+    }
+    let reader = feeding::load_reader(carried, place);
+    let mut words = [0u64; 43];
+    maps::copy(hart, &mut words);
+    let next = reader.feed_words(&mut words, memory, base, scrap, answers);
+    let after = next.reader;
+    feeding::store_reader(after, (next.filled / 4) as u64, carried, place);
+    maps::store_words(words, hart);
+    maps::renew(next.remap, hart, map);
+    next.taken as u64
+}
+
+// How many bytes a reader carries that are short of a record; 0 after a broken one. 2^64-1 where the length is another.
+#[no_mangle]
+pub extern "C" fn tegrwyllt_left(place: &[u64]) -> u64
+    ensures { λ r. ⌜ r ≡ leftCall (now (place .entry)) ⌝ }
+{
+    if place.len() != 4 {
+        return MISFIT;
+    }
+    let reader = Reader {
+        carried: [0u8; 59],
+        count: place[0],
+        number: place[1],
+        stopped: place[2] != 0,
+    };
+    reader.left()
 }

@@ -19,6 +19,14 @@ pub(crate) fn copy(from: &[u64], to: &mut [u64])
     }
 }
 
+// Writes the words of a hart.
+pub(crate) fn store_words(words: [u64; 43], hart: &mut [u64])
+    requires { ⌜ length (now hart) ≡ 43 ⌝ }
+    ensures { λ _. ⌜ now (hart .exit) ≡ words ⌝ }
+{
+    copy(&words, hart);
+}
+
 // Writes a map as 100 words.
 pub(crate) fn store_map(map: Map, words: &mut [u64])
     requires { ⌜ length (now words) ≡ 100 ⌝ }

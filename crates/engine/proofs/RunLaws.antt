@@ -8,6 +8,7 @@ use lib.Dec.{eqb}
 use lib.ListN.{length, getD, drop, set}
 use lib.Seq.{sets}
 use Rattle.bits.specs.Lists.{Words}
+use Rattle.bits.proofs.ListLaws.{set-past}
 use Rattle.bits.specs.Fold.{fold, outputs, anyStep}
 use Rattle.steps.specs.declared.Step.{Step}
 use Rattle.steps.specs.declared.Decoded.{Decoded}
@@ -43,6 +44,11 @@ named-plain held s m d e = ap (λ (x : Taken). answerInterrupt (x .answer)) e �
 assoc-or : (a b c : Bool) → ((a || b) || c) ≡ (a || (b || c))
 assoc-or true b c = refl
 assoc-or false b c = refl
+
+-- nothing is written behind the end of a slice
+pub sets-past : (xs l : List ℕ) (i : ℕ) → length l ≤ i → sets l i xs ≡ l
+sets-past [] l i h = refl
+sets-past (x ∷ xs) l i h = ap (λ (k : List ℕ). sets k (suc i) xs) (set-past l i x h) ∙ sets-past xs l (suc i) (omega arith)
 
 -- the words of an answer, and what comes behind them, written from a place on
 answers-put : (l : List ℕ) (i : ℕ) (a : Answer) (rest : List ℕ) → sets (sets l i (answerNumbers a)) (i + 4) rest ≡ sets l i (answerNumbers a ++ rest)

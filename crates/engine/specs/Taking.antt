@@ -8,6 +8,7 @@ use Rattle.protection.specs.Same.{samePmp}
 use Rattle.paging.specs.Memory.{Memory}
 use Rattle.state.specs.declared.State.{State}
 use Rattle.engine.specs.declared.Taken.{Taken}
+use Rattle.engine.specs.declared.Told.{Told}
 use Rattle.engine.specs.Effects.{Effect, effect, isReset, ruledBy, stepRule}
 
 -- no reset: the map is compiled anew where a protection register differs
@@ -40,3 +41,7 @@ namedTaken held s m Nothing = record { answer = Done; held = held; remap = false
 abbrev pub namedState : Bool → State → Memory → Decoded → State
 namedState held s m (Formed step) = ruledBy held s m step .state
 namedState held s m Nothing = s
+
+-- without its answer
+abbrev pub told : Taken → Told
+told t = record { held = t .held; remap = t .remap }

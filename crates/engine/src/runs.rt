@@ -1,58 +1,20 @@
 // A run of steps: the only loop over them.
 use crate::Taken;
+use crate::Told;
 use crate::taking::take;
 use steps::Answer;
 use steps::Decoded;
-use steps::Trap;
 ghost use mathlib.Core.Path.{_≡_};
-ghost use mathlib.Core.Bool.{true, cond};
+ghost use mathlib.Core.Bool.{true};
 ghost use Prim.Native.Nat.{_+_, _^_, _<_};
 ghost use lib.ListN.{length, set};
 ghost use lib.Seq.{sets};
-ghost use Rattle.steps.specs.Number.{causeNumber, interruptNumber, answerInterrupt, answerNumbers};
+ghost use Rattle.steps.specs.Number.{answerInterrupt, answerNumbers};
 ghost use Rattle.steps.specs.Decode.{decoded, stepsOf, nameSteps};
 ghost use Rattle.paging.specs.Memory.{memoryAt};
 ghost use Rattle.state.specs.Words.{stateOf};
-ghost use Rattle.engine.specs.Taking.{namedTaken, namedState};
+ghost use Rattle.engine.specs.Taking.{namedTaken, namedState, told};
 ghost use Rattle.engine.specs.Runs.{lent, afterAll, anyRemaps, answersOf, ran};
-
-fn flag_number(flag: bool) -> u64
-    ensures { λ r. ⌜ r ≡ cond flag 1 0 ⌝ }
-{
-    if flag { 1 } else { 0 }
-}
-
-// No step answers with an interrupt, so that the sum does not wrap.
-fn cause_number(trap: Trap) -> u64
-    requires { ⌜ interruptNumber trap ≡ 0 ⌝ }
-    ensures { λ r. ⌜ r ≡ causeNumber trap ⌝ }
-{
-    match trap {
-        Trap::Exception(cause) => cause,
-        Trap::Interrupt(number) => 0x8000000000000000 + number,
-    }
-}
-
-fn answer_numbers(answer: Answer) -> [u64; 4]
-    requires { ⌜ answerInterrupt answer ≡ 0 ⌝ }
-    ensures { λ r. ⌜ r ≡ answerNumbers answer ⌝ }
-{
-    match answer {
-        Answer::Done => [0, 0, 0, 0],
-        Answer::DoneValue(value) => [1, value, 0, 0],
-        Answer::DoneFlag(flag) => [2, flag_number(flag), 0, 0],
-        Answer::Granted(entry) => [3, 0, 0, entry as u64],
-        Answer::Trapped(trap, level, entry) => {
-            [
-                4,
-                cause_number(trap),
-                steps::level_number(level),
-                entry as u64,
-            ]
-        }
-        Answer::Refused(number) => [5, number, 0, 0],
-    }
-}
 
 // Stores a word where the slice has its place.
 fn put(words: &mut [u64], place: usize, word: u64)
@@ -67,7 +29,7 @@ fn put_answer(answer: Answer, answers: &mut [u64], place: usize)
     requires { ⌜ (answerInterrupt answer ≡ 0) × (place + 3 < 2 ^ 64) ⌝ }
     ensures { λ _. ⌜ now (answers .exit) ≡ sets (now (answers .entry)) place (answerNumbers answer) ⌝ }
 {
-    let numbers = answer_numbers(answer);
+    let numbers = steps::answer_words(answer);
     put(answers, place, numbers[0]);
     put(answers, place + 1, numbers[1]);
     put(answers, place + 2, numbers[2]);
@@ -98,6 +60,72 @@ fn take_named(
     }
 }
 
+// The step that three numbers name, on the words of a hart, as `step` does it. Numbers that name none do nothing.
+pub fn step_named(
+    words: &mut [u64; 43],
+    memory: &[u64],
+    base: u64,
+    held: bool,
+    number: u64,
+    a: u64,
+    b: u64,
+) -> Taken
+    ensures { λ r. ⌜ r ≡ namedTaken held (stateOf (now (words .entry))) (memoryAt (now (memory .entry)) base) (decoded number a b) ⌝ }
+    ensures { λ _. ⌜ stateOf (now (words .exit)) ≡ namedState held (stateOf (now (words .entry))) (memoryAt (now (memory .entry)) base) (decoded number a b) ⌝ }
+{
+    take_named(words, memory, base, held, number, a, b)
+}
+
+// The same with the answer written from a place on. What is passed on are numbers and slices: where a program has two loops over steps, that of a run and that of a trace,
+// this is compiled once and called by both, and an answer handed back would be copied at each step.
+fn take_into(
+    words: &mut [u64],
+    memory: &[u64],
+    base: u64,
+    held: bool,
+    number: u64,
+    a: u64,
+    b: u64,
+    answers: &mut [u64],
+    place: usize,
+) -> Told
+    requires { ⌜ (length (now words) ≡ 43) × (place + 3 < 2 ^ 64) ⌝ }
+    ensures { λ r. ⌜ r ≡ told (namedTaken held (stateOf (now (words .entry))) (memoryAt (now (memory .entry)) base) (decoded number a b)) ⌝ }
+    ensures { λ _. ⌜ stateOf (now (words .exit)) ≡ namedState held (stateOf (now (words .entry))) (memoryAt (now (memory .entry)) base) (decoded number a b) ⌝ }
+    ensures { λ _. ⌜ now (answers .exit) ≡ sets (now (answers .entry)) place (answerNumbers (namedTaken held (stateOf (now (words .entry))) (memoryAt (now (memory .entry)) base) (decoded number a b) .answer)) ⌝ }
+{
+    let next = take_named(words, memory, base, held, number, a, b);
+    let answer = next.answer;
+    put_answer(answer, answers, place);
+    Told {
+        held: next.held,
+        remap: next.remap,
+    }
+}
+
+// A step by its numbers, with the answer written as four words from a place on, as far as the slice goes.
+pub fn step_into(
+    words: &mut [u64; 43],
+    memory: &[u64],
+    base: u64,
+    held: bool,
+    number: u64,
+    a: u64,
+    b: u64,
+    answers: &mut [u64],
+    place: usize,
+) -> Told
+    ensures { λ r. ⌜ r ≡ told (namedTaken held (stateOf (now (words .entry))) (memoryAt (now (memory .entry)) base) (decoded number a b)) ⌝ }
+    ensures { λ _. ⌜ stateOf (now (words .exit)) ≡ namedState held (stateOf (now (words .entry))) (memoryAt (now (memory .entry)) base) (decoded number a b) ⌝ }
+    ensures { λ _. ⌜ now (answers .exit) ≡ sets (now (answers .entry)) place (answerNumbers (namedTaken held (stateOf (now (words .entry))) (memoryAt (now (memory .entry)) base) (decoded number a b) .answer)) ⌝ }
+{
+    if answers.len() <= place {
+        let mut none = [0u64; 1];
+        return take_into(words, memory, base, held, number, a, b, &mut none, 0);
+    }
+    take_into(words, memory, base, held, number, a, b, answers, place)
+}
+
 // All steps in order, each given what the one before left. A step has three words and its answer four. Gives whether the map has to be compiled anew.
 fn run_steps(
     words: &mut [u64],
@@ -116,7 +144,7 @@ fn run_steps(
     let mut i: usize = 0;
     let mut place: usize = 0;
     while i < steps.len() {
-        let next = take_named(
+        let next = take_into(
             words,
             memory,
             base,
@@ -124,9 +152,9 @@ fn run_steps(
             steps[i],
             steps[i + 1],
             steps[i + 2],
+            answers,
+            place,
         );
-        let answer = next.answer;
-        put_answer(answer, answers, place);
         held = next.held;
         remap = remap | next.remap;
         i += 3;

@@ -1,6 +1,6 @@
 -- Reading a record line by line is reading its form. Assumes nothing.
 use Prim.Native.Nat.{ℕ}
-use mathlib.Core.Path.{_≡_, refl, sym, _∙_}
+use mathlib.Core.Path.{_≡_, refl, sym, ap, _∙_}
 use mathlib.Core.Bool.{Bool, true, cond, _&&_, and-true, and-assoc}
 use mathlib.Core.List.{List}
 use lib.ListN.{length}
@@ -8,7 +8,8 @@ use Rattle.lines.specs.Lines.{bytesOf, keyOf, linesLength}
 use Rattle.lines.specs.Fields.{lineAt, linesAt, allOk, wordsRead}
 use Rattle.lines.proofs.Reading.{text-judged, words-judged, not-text}
 use Rattle.records.specs.declared.Record.the-variants.{Words, Broken}
-use Rattle.records.specs.Records.{keys, readRecord}
+use Rattle.steps.specs.declared.Decoded.the-variants.{Nothing}
+use Rattle.records.specs.Records.{keys, readRecord, recordStep, readStep}
 
 record-length : linesLength keys ≡ 60
 unfolding keys bytesOf linesLength
@@ -31,3 +32,8 @@ record-judged t h =
 pub record-short : (t : List ℕ) → (length t ≡ 60 → ⊥) → Broken ≡ readRecord t
 unfolding readRecord
 record-short t h = rw (not-text t keys (λ e. h (e ∙ record-length)))
+
+-- and names no step
+pub step-short : (t : List ℕ) → (length t ≡ 60 → ⊥) → Nothing ≡ readStep t
+unfolding readStep recordStep
+step-short t h = ap recordStep (record-short t h)

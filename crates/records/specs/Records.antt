@@ -7,7 +7,7 @@ use lib.Dec.{leb, eqb}
 use lib.ListN.{getD}
 use Rattle.lines.specs.Lines.{linesOf, wordsIn, isText}
 use Rattle.steps.specs.declared.Decoded.{Decoded}
-use Rattle.steps.specs.declared.Decoded.the-variants.{Nothing}
+use Rattle.steps.specs.declared.Decoded.the-variants.{Formed, Nothing}
 use Rattle.steps.specs.Decode.{decoded}
 use Rattle.records.specs.declared.Record.{Record}
 use Rattle.records.specs.declared.Record.the-variants.{Words, Broken}
@@ -46,3 +46,12 @@ recordStep Broken = Nothing
 -- the step of a record's text; none is refusal 8
 unfoldable pub readStep : List ℕ → Decoded
 readStep t = recordStep (readRecord t)
+
+-- the record again, if it names a step
+abbrev pub naming : Record → Decoded → Record
+naming r (Formed step) = r
+naming r Nothing = Broken
+
+-- the numbers of a record that names a step
+unfoldable pub readNumbers : List ℕ → Record
+readNumbers t = naming (readRecord t) (readStep t)

@@ -1,10 +1,10 @@
 // Records of a trace: the text of a step.
 use steps::Decoded;
 ghost use mathlib.Core.Path.{_≡_};
-ghost use Rattle.records.specs.Records.{readRecord, ignoresFirst, ignoresSecond, unusedAreZero, recordStep, readStep};
+ghost use Rattle.records.specs.Records.{readRecord, ignoresFirst, ignoresSecond, unusedAreZero, recordStep, naming, readNumbers};
 
 // The three words of a record.
-enum Record {
+pub enum Record {
     Words(u64, u64, u64),
     Broken,
 }
@@ -60,9 +60,20 @@ fn record_step(record: Record) -> Decoded
     }
 }
 
-// The step of a record's text, if it is a record and names one.
-pub fn read_step(text: &[u8]) -> Decoded
-    ensures { λ r. ⌜ r ≡ readStep (now (text .entry)) ⌝ }
+// The record again, if it names a step.
+fn naming(record: Record, decoded: Decoded) -> Record
+    ensures { λ r. ⌜ r ≡ naming «record» decoded ⌝ }
 {
-    record_step(read_record(text))
+    match decoded {
+        Decoded::Formed(_) => record,
+        Decoded::Nothing => Record::Broken,
+    }
+}
+
+// The numbers of a record's text, if it is a record and names a step.
+pub fn read_numbers(text: &[u8]) -> Record
+    ensures { λ r. ⌜ r ≡ readNumbers (now (text .entry)) ⌝ }
+{
+    let words = read_record(text);
+    naming(words, record_step(words))
 }

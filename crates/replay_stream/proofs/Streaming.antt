@@ -12,22 +12,22 @@ use Rattle.memory_text.specs.declared.Reading.{Reading}
 use Rattle.memory_text.specs.MemoryText.{textOf, isMemoryText, readMemory, storedIn}
 use Rattle.memory_text.proofs.Laws.{round-trip, read-back}
 use Rattle.trace.specs.declared.Session.{Session}
-use Rattle.trace.specs.declared.Fed.{Fed}
-use Rattle.trace.specs.Sessions.{fed, pieceRoom, afterPiece, resetSession, textSession}
-use Rattle.trace.proofs.Sessions.{pieces-none, pieces-more}
+use Rattle.trace.specs.declared.Written.{Written}
+use Rattle.trace.specs.Sessions.{fedPiece, pieceRoom, afterPiece, resetSession}
+use Rattle.trace.proofs.SessionLaws.{pieces-none, pieces-more}
 use Rattle.trace.proofs.Wholeness.{pieces-still}
 use Rattle.replay_stream.specs.declared.Stream.{Stream}
 use Rattle.replay_stream.specs.Streams.{OnePiece, Going, Streamed, Begun, FromFile, mostPieces}
-use Rattle.replay_stream.specs.Streams.{isNone, startNamed, memoryOf, memoryNamed, Lending, FromPaths}
+use Rattle.replay_stream.specs.Streams.{isNone, memoryOf, memoryNamed, Lending, FromPaths}
 
 module _ (m : Memory) where
   -- the buffer has room for the lines of a piece
-  pub piece-fed : (s : Session) (piece before : List ℕ) {r : Fed} → length piece ≤ 61440 → length before ≡ 65536 → r ≡ fed m s piece before
+  pub piece-fed : (s : Session) (piece before : List ℕ) {r : Written} → length piece ≤ 61440 → length before ≡ 65600 → r ≡ fedPiece m s piece before
       → r .session ≡ afterPiece m s piece
-  unfolding fed
+  unfolding fedPiece
   piece-fed s piece before h l e =
       let room : pieceRoom piece ≤ length before = omega arith in
-      ap (λ (x : Fed). x .session) e ∙ rw (le-ltb (length before) (pieceRoom piece) room)
+      ap (λ (x : Written). x .session) e ∙ rw (le-ltb (length before) (pieceRoom piece) room)
 
   pub none-fed : (s : Session) → Going m s s mostPieces
   none-fed s = record { pieces = []; session = sym (pieces-none m s); count = refl }

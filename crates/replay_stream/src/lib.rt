@@ -20,7 +20,7 @@ fn piece(
     base: u64,
     fd: i32,
     input: &mut [u8; 61440],
-    out: &mut [u8; 65536],
+    out: &mut [u8; 65600],
     session: Session,
 ) -> Stream
     ensures { λ r. ⌜ OnePiece (memoryAt (now (memory .entry)) base) session r ⌝ }
@@ -58,7 +58,7 @@ fn pieces(
     base: u64,
     fd: i32,
     input: &mut [u8; 61440],
-    out: &mut [u8; 65536],
+    out: &mut [u8; 65600],
     start: Session,
 ) -> Stream
     ensures { λ r. ⌜ Streamed (memoryAt (now (memory .entry)) base) start r ⌝ }
@@ -86,7 +86,7 @@ fn replay(memory: &[u64], base: u64, fd: i32, start: Session) -> Stream
     ensures { λ r. ⌜ Streamed (memoryAt (now (memory .entry)) base) start r ⌝ }
 {
     let mut input = [0u8; 61440];
-    let mut out = [0u8; 65536];
+    let mut out = [0u8; 65600];
     pieces(memory, base, fd, &mut input, &mut out, start)
 }
 

@@ -42,6 +42,10 @@ isAccess (Csr op number operand) = false
 isAccess (AccessStep access address size) = true
 isAccess (EventStep event) = false
 
+-- by their numbers
+abbrev pub namesAccess : ℕ → Bool
+namesAccess number = leb 14 number && leb number 16
+
 -- a list with the step in front, where there is one
 abbrev pub prepended : Decoded → List Step → List Step
 prepended (Formed s) steps = s ∷ steps

@@ -1,5 +1,5 @@
 -- 01, "Steps", "Traps, returns, time" and "Protection, byte by byte", and 02, [5]: the numbers of each case of an answer and of a decision, and their values.
-use Prim.Native.Nat.{ℕ, _+_, _^_}
+use Prim.Native.Nat.{ℕ, _+_, _%_, _^_}
 use mathlib.Core.Bool.{cond}
 use mathlib.Core.List.{List, [], _∷_}
 use Rattle.pmp.specs.declared.Decision.{Decision}
@@ -43,6 +43,19 @@ answerNumbers (DoneFlag b) = 2 ∷ cond b 1 0 ∷ 0 ∷ 0 ∷ []
 answerNumbers (Granted entry) = 3 ∷ 0 ∷ 0 ∷ entry ∷ []
 answerNumbers (Trapped trap level entry) = 4 ∷ causeNumber trap ∷ levelNumber level ∷ entry ∷ []
 answerNumbers (Refused n) = 5 ∷ n ∷ 0 ∷ 0 ∷ []
+
+-- the same in words of 64 bits: the sum of an interrupt's cause wraps. No step answers with an interrupt, and then these are the numbers
+abbrev pub causeWord : Trap → ℕ
+causeWord (Exception c) = c
+causeWord (Interrupt i) = (2 ^ 63 + i) % 2 ^ 64
+
+abbrev pub answerWords : Answer → List ℕ
+answerWords (Trapped trap level entry) = 4 ∷ causeWord trap ∷ levelNumber level ∷ entry ∷ []
+answerWords Done = answerNumbers Done
+answerWords (DoneValue v) = answerNumbers (DoneValue v)
+answerWords (DoneFlag b) = answerNumbers (DoneFlag b)
+answerWords (Granted entry) = answerNumbers (Granted entry)
+answerWords (Refused n) = answerNumbers (Refused n)
 
 -- a decision on an access has the numbers of the answers granted and refused; a fault is the case 6, with its cause and entry
 abbrev pub decisionNumbers : Decision → List ℕ

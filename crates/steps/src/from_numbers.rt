@@ -5,7 +5,7 @@ use crate::Operation;
 use crate::Step;
 use pmp::Access;
 ghost use mathlib.Core.Path.{_≡_};
-ghost use Rattle.steps.specs.Decode.{decoded, isAccess, nameSteps};
+ghost use Rattle.steps.specs.Decode.{decoded, namesAccess, nameSteps};
 
 // The step that a number and its two arguments name.
 pub fn decode(number: u64, a: u64, b: u64) -> Decoded
@@ -34,16 +34,11 @@ pub fn decode(number: u64, a: u64, b: u64) -> Decoded
     }
 }
 
-// Whether the step is an access: only of one does an entry decide.
-pub fn is_access(step: Step) -> bool
-    ensures { λ r. ⌜ r ≡ isAccess step ⌝ }
+// Whether a number names an access: only of one does an entry decide.
+pub fn names_access(number: u64) -> bool
+    ensures { λ r. ⌜ r ≡ namesAccess number ⌝ }
 {
-    match step {
-        Step::Reset => false,
-        Step::Csr(_, _, _) => false,
-        Step::Access(_, _, _) => true,
-        Step::Event(_) => false,
-    }
+    (14 <= number) & (number <= 16)
 }
 
 // Whether there are three words for each step, and each number names one. The loop ends at the first that does not, which also keeps the compiler from

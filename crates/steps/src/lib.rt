@@ -5,8 +5,9 @@ mod from_numbers;
 mod numbers;
 
 pub use from_numbers::decode;
-pub use from_numbers::is_access;
 pub use from_numbers::name_steps;
+pub use from_numbers::names_access;
+pub use numbers::answer_words;
 pub use numbers::level_number;
 pub use numbers::refusal_of;
 

@@ -12,7 +12,7 @@ use Rattle.map.specs.declared.Range.{Range}
 use Rattle.map.specs.declared.Map.{Map}
 use Rattle.map.specs.Lookup.{rangesIn}
 use Rattle.lines.specs.Lines.{bytesOf, hexDigits}
-use Rattle.trace.specs.declared.Replay.{Replay}
+use Rattle.hart.specs.declared.Hart.{Hart}
 use Rattle.trace.specs.Answers.{decimal, numberedLine}
 use Rattle.trace.specs.SavedTexts.{stateText}
 use Rattle.trace.specs.Endings.{ownerText, rangeLine, rangeLines, ending}
@@ -67,16 +67,16 @@ ranges-length m =
     let n = min (m .count) 33 in
     omega (arith, lines-length (rangesIn m), length-take n (m .ranges))
 
-pub ending-length : (r : Replay) (left : ℕ) → length (ending r left) ≤ 4096
+pub ending-length : (h : Hart) (map : Map) (left : ℕ) → length (ending h map left) ≤ 4096
 unfolding ending bytesOf
-ending-length r left =
+ending-length h map left =
     let name = bytesOf "left " in
     let last = numberedLine name left in
     omega (
       arith,
-      length-append (stateText (r .hart)) (rangeLines (rangesIn (r .map)) ++ last),
-      state-length (r .hart),
-      length-append (rangeLines (rangesIn (r .map))) last,
-      ranges-length (r .map),
+      length-append (stateText h) (rangeLines (rangesIn map) ++ last),
+      state-length h,
+      length-append (rangeLines (rangesIn map)) last,
+      ranges-length map,
       numbered-length name left,
     )

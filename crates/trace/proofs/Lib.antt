@@ -1,11 +1,20 @@
 -- The laws that the proofs and the crates above cite.
 pub mod Writing
 pub mod WorkedLines
-pub mod Batching
 pub mod SavedTexts
 pub mod TextOutput
 pub mod Endings
-pub mod Cutting
-pub mod Replaying
-pub mod Sessions
+pub mod Readers
+pub mod OneByte
+pub mod Bytes
+pub mod Replying
+pub mod Counting
+pub mod Batching
+pub mod Parts
+pub mod Feeds
+pub mod FeedLaws
+pub mod CutAnywhere
+pub mod Taking
+pub mod RefusalEight
+pub mod SessionLaws
 pub mod Wholeness

@@ -1,11 +1,11 @@
 -- In whatever pieces a trace comes, what is written for them is what the trace at once gives. Assumes nothing.
-use Prim.Native.Nat.{ℕ, _+_, _*_, _/_, _%_, _<_}
+use Prim.Native.Nat.{ℕ, _<_, min}
 use mathlib.Core.Path.{_≡_, refl, sym, ap, _∙_}
 use mathlib.Core.Bool.{Bool, true, false, cond, not, _&&_, and-false}
 use mathlib.Core.List.{List, [], _∷_, _++_, append-assoc}
 use native.Mathlib.Omega.{arith}
 use lib.Dec.{eqb}
-use lib.ListN.{length, length-append}
+use lib.ListN.{length}
 use borrow.Author.Tests.{ne-eqb}
 use Rattle.bits.specs.Fold.{fold, outputs}
 use Rattle.bits.proofs.FoldLaws.{fold-append, outputs-append}
@@ -17,22 +17,24 @@ use Rattle.text.specs.declared.Form.{Form}
 use Rattle.text.specs.Text.{readText}
 use Rattle.hart.specs.declared.Hart.{Hart}
 use Rattle.hart.specs.Steps.{resetMapped, handedBack}
-use Rattle.trace.specs.declared.Replay.{Replay}
+use Rattle.hart.specs.Saved.{readAnew}
 use Rattle.trace.specs.declared.Session.{Session}
 use Rattle.trace.specs.Answers.{refusedLine}
-use Rattle.trace.specs.Batches.{recordsOf, afterRecords, recordLines, afterInput, inputLines}
-use Rattle.trace.specs.Endings.{ending, leftOver}
-use Rattle.trace.specs.Sessions.{resetSession, readSession, textSession, fullPiece, continued, afterPiece, pieceLines, sessionEnding, afterPieces, piecesLines, allWritten}
-use Rattle.hart.specs.Saved.{readAnew}
+use Rattle.trace.specs.Replies.{replyLine, written}
+use Rattle.trace.specs.Reading.{Reading, afterByte, byteReplies, afterBytes, repliesTo}
+use Rattle.trace.specs.Feeding.{leftCount}
+use Rattle.trace.specs.Endings.{ending}
+use Rattle.trace.specs.Sessions.{resetSession, readSession, textSession, fullPiece, readingIn, continued, afterPiece, pieceLines, sessionEnding, afterPieces, piecesLines, allWritten}
 use Rattle.trace.specs.InPieces.{replayed, joined, AllFull, unread, begun, fromText, InPieces}
 use Rattle.trace.proofs.SavedTexts.{form-read}
-use Rattle.trace.proofs.Batching.{stopped-still}
-use Rattle.trace.proofs.Cutting.{records-cut, lines-cut}
-use Rattle.trace.proofs.Sessions.{piece-still, piece-goes}
+use Rattle.trace.proofs.OneByte.{bytes-ignored}
+use Rattle.trace.proofs.Readers.{Kept, bytes-kept, reading-back}
+use Rattle.trace.proofs.Replying.{written-append}
+use Rattle.trace.proofs.SessionLaws.{session-kept, piece-still, piece-goes}
 
 -- ---- what a session writes at its end
 
-ending-written : (s : Session) → s .more ≡ false → s .refusal ≡ 0 → sessionEnding s ≡ ending (s .replay) (s .left)
+ending-written : (s : Session) → s .more ≡ false → s .refusal ≡ 0 → sessionEnding s ≡ ending (s .hart) (s .map) (leftCount (s .reader .stopped) (s .reader .count))
 unfolding sessionEnding
 ending-written s h z = rw (h, z)
 
@@ -43,6 +45,19 @@ refusal-written s h e = rw (h, ne-eqb (s .refusal) 0 e)
 none-written : (s : Session) → s .more ≡ true → sessionEnding s ≡ []
 unfolding sessionEnding
 none-written s h = rw h
+
+-- ---- a reading
+
+count-left : (x : Reading) → Kept x → leftCount (x .replay .stopped) (length (x .left)) ≡ length (x .left)
+count-left x k = go (x .replay .stopped) refl
+  where
+    go : (b : Bool) → x .replay .stopped ≡ b → cond b 0 (min (length (x .left)) 59) ≡ length (x .left)
+    go true q = ap length (sym (k .none q))
+    go false q = omega (arith, k .short)
+
+-- the ending of a reading
+abbrev endingOf : Reading → List ℕ
+endingOf x = ending (x .replay .hart) (x .replay .map) (length (x .left))
 
 -- ---- the starts
 
@@ -81,90 +96,98 @@ module _ (m : Memory) where
     ended-writes : (ps : List (List ℕ)) → allWritten m s ps ≡ sessionEnding s
     ended-writes ps = let e = pieces-still ps in λ j. e .1 j ++ sessionEnding (e .0 j)
 
-  written-append : (s : Session) (ps qs : List (List ℕ)) → allWritten m s (ps ++ qs) ≡ piecesLines m s ps ++ allWritten m (afterPieces m s ps) qs
-  written-append s ps qs =
+  pieces-append : (s : Session) (ps qs : List (List ℕ)) → allWritten m s (ps ++ qs) ≡ piecesLines m s ps ++ allWritten m (afterPieces m s ps) qs
+  pieces-append s ps qs =
       (λ j. outputs-append (afterPiece m) (pieceLines m) s ps qs j ++ sessionEnding (fold-append (afterPiece m) s ps qs j))
       ∙ append-assoc (piecesLines m s ps) (piecesLines m (afterPieces m s ps) qs) (sessionEnding (afterPieces m (afterPieces m s ps) qs))
 
-  written-cons : (s : Session) (p : List ℕ) (ps : List (List ℕ)) → allWritten m s (p ∷ ps) ≡ pieceLines m s p ++ allWritten m (afterPiece m s p) ps
+  pieces-cons : (s : Session) (p : List ℕ) (ps : List (List ℕ)) → allWritten m s (p ∷ ps) ≡ pieceLines m s p ++ allWritten m (afterPiece m s p) ps
   unfolding fold outputs
-  written-cons s p ps = append-assoc (pieceLines m s p) (piecesLines m (afterPiece m s p) ps) (sessionEnding (afterPieces m (afterPiece m s p) ps))
+  pieces-cons s p ps = append-assoc (pieceLines m s p) (piecesLines m (afterPiece m s p) ps) (sessionEnding (afterPieces m (afterPiece m s p) ps))
 
-  -- ---- a trace with a full piece in front
+  -- ---- after refusal 8 bytes leave nothing behind
 
-  module _ (r : Replay) (p rest : List ℕ) (h : length p ≡ fullPiece) where
-    front-count : length (p ++ rest) / 60 ≡ length p / 60 + length rest / 60
-    front-count = omega (arith, length-append p rest)
+  module _ (x : Reading) (h : x .replay .stopped ≡ true) where
+    replayed-stopped : (trace : List ℕ) → replayed m x trace ≡ endingOf x
+    unfolding written
+    replayed-stopped trace = let e = bytes-ignored m x h trace in λ j. written replyLine (e .1 j) ++ endingOf (e .0 j)
 
-    front-records : length p ≡ 60 * (length p / 60)
-    front-records = omega arith
+  -- ---- a trace cut anywhere
 
-    replayed-front : replayed m r (p ++ rest) ≡ inputLines m r p ++ replayed m (afterInput m r p) rest
-    replayed-front =
-        let there = afterInput m r p in
-        let after : afterInput m r (p ++ rest) ≡ afterInput m there rest =
-        ap (λ (n : ℕ). afterRecords m n r (p ++ rest)) front-count ∙ records-cut (length rest / 60) rest m (length p / 60) r p front-records in
-        let lines : inputLines m r (p ++ rest) ≡ inputLines m r p ++ inputLines m there rest =
-        ap (λ (n : ℕ). recordLines m n r (p ++ rest)) front-count ∙ lines-cut (length rest / 60) rest m (length p / 60) r p front-records in
-        let left : length (p ++ rest) % 60 ≡ length rest % 60 = omega (arith, length-append p rest) in
-        (λ j. lines j ++ ending (after j) (cond (after j .stopped) 0 (left j)))
-        ∙ append-assoc (inputLines m r p) (inputLines m there rest) (ending (afterInput m there rest) (leftOver (afterInput m there rest .stopped) (length rest)))
+  replayed-front : (x : Reading) (front rest : List ℕ)
+      → replayed m x (front ++ rest) ≡ written replyLine (repliesTo m x front) ++ replayed m (afterBytes m x front) rest
+  replayed-front x front rest =
+      let there = afterBytes m x front in
+      let lines : written replyLine (repliesTo m x (front ++ rest)) ≡ written replyLine (repliesTo m x front) ++ written replyLine (repliesTo m there rest) =
+      ap (written replyLine) (outputs-append (afterByte m) (byteReplies m) x front rest)
+      ∙ written-append replyLine (repliesTo m x front) (repliesTo m there rest) in
+      (λ j. lines j ++ endingOf (fold-append (afterByte m) x front rest j))
+      ∙ append-assoc (written replyLine (repliesTo m x front)) (written replyLine (repliesTo m there rest)) (endingOf (afterBytes m there rest))
 
-  replayed-stopped : (r : Replay) (t : List ℕ) → r .stopped ≡ true → replayed m r t ≡ ending r 0
-  replayed-stopped r t h =
-      let s = stopped-still m r h (recordsOf (length t / 60) t) in
-      (λ j. s .1 j ++ ending (s .0 j) (leftOver (s .0 j .stopped) (length t))) ∙ rw h
+  -- ---- the session that a piece leaves
+
+  module _ (s : Session) (p : List ℕ) where
+    abbrev here : Reading
+    here = afterBytes m (readingIn s) p
+
+    here-kept : Kept here
+    here-kept = bytes-kept m (readingIn s) p (session-kept s)
+
+    -- it is read as the reading it was made of, and has its ending
+    reading-left : (came : ℕ) → readingIn (continued s here came) ≡ here
+    reading-left came = reading-back here here-kept
+
+    ending-left : (came : ℕ) → continued s here came .more ≡ false → s .refusal ≡ 0 → sessionEnding (continued s here came) ≡ endingOf here
+    ending-left came over z =
+        ending-written (continued s here came) over z ∙ ap (ending (here .replay .hart) (here .replay .map)) (count-left here here-kept)
 
   -- ---- the claim
 
   whole : (s : Session) (full : List (List ℕ)) (last : List ℕ) → s .more ≡ true → s .refusal ≡ 0 → AllFull full → length last < fullPiece
-      → allWritten m s (full ++ last ∷ []) ≡ replayed m (s .replay) (joined full last)
+      → allWritten m s (full ++ last ∷ []) ≡ replayed m (readingIn s) (joined full last)
   whole s [] last h z f l =
-      let next = continued s (afterInput m (s .replay) last) (length last) in
+      let next = continued s (here s last) (length last) in
       let g = piece-goes m s last h in
       let short : length last ≡ fullPiece → ⊥ = λ e. omega arith in
       let over : next .more ≡ false = rw (ne-eqb (length last) fullPiece short) in
-      written-cons s last [] ∙ (λ j. g .1 j ++ allWritten m (g .0 j) [])
-      ∙ ap (λ (t : List ℕ). inputLines m (s .replay) last ++ t) (ended-writes next over [] ∙ ending-written next over z)
+      pieces-cons s last [] ∙ (λ j. g .1 j ++ allWritten m (g .0 j) [])
+      ∙ ap (λ (t : List ℕ). written replyLine (repliesTo m (readingIn s) last) ++ t) (ended-writes next over [] ∙ ending-left s last (length last) over z)
   whole s (p ∷ full) last h z f l =
       let g = piece-goes m s p h in
-      written-cons s p (full ++ last ∷ []) ∙ (λ j. g .1 j ++ allWritten m (g .0 j) (full ++ last ∷ []))
-      ∙ ap (λ (t : List ℕ). inputLines m (s .replay) p ++ t) (go (next .replay .stopped) refl (λ more. whole next full last more z (f .1) l))
-      ∙ sym (replayed-front (s .replay) p (joined full last) (f .0))
+      pieces-cons s p (full ++ last ∷ []) ∙ (λ j. g .1 j ++ allWritten m (g .0 j) (full ++ last ∷ []))
+      ∙ ap (λ (t : List ℕ). written replyLine (repliesTo m (readingIn s) p) ++ t) (go (here s p .replay .stopped) refl (λ more. whole next full last more z (f .1) l))
+      ∙ sym (replayed-front (readingIn s) p (joined full last))
     where
       next : Session
-      next = continued s (afterInput m (s .replay) p) (length p)
+      next = continued s (here s p) (length p)
 
-      Rest : Type 0
-      Rest = allWritten m next (full ++ last ∷ []) ≡ replayed m (next .replay) (joined full last)
-
-      go : (b : Bool) → next .replay .stopped ≡ b → (next .more ≡ true → Rest) → Rest
+      go : (b : Bool) → here s p .replay .stopped ≡ b
+          → (next .more ≡ true → allWritten m next (full ++ last ∷ []) ≡ replayed m (readingIn next) (joined full last))
+          → allWritten m next (full ++ last ∷ []) ≡ replayed m (here s p) (joined full last)
       go true q rest =
           let over : next .more ≡ false = λ j. eqb (f .0 j) fullPiece && not (q j) in
-          ended-writes next over (full ++ last ∷ []) ∙ ending-written next over z
-          ∙ ap (λ (b : Bool). ending (next .replay) (leftOver b (length p))) q
-          ∙ sym (replayed-stopped (next .replay) (joined full last) q)
-      go false q rest = rest (λ j. eqb (f .0 j) fullPiece && not (q j))
+          ended-writes next over (full ++ last ∷ []) ∙ ending-left s p (length p) over z ∙ sym (replayed-stopped (here s p) q (joined full last))
+      go false q rest = rest (λ j. eqb (f .0 j) fullPiece && not (q j)) ∙ (λ j. replayed m (reading-left s p (length p) j) (joined full last))
 
   -- ---- one piece
 
   module _ (s : Session) (p : List ℕ) (h : s .more ≡ true) where
-    went : afterPiece m s p ≡ continued s (afterInput m (s .replay) p) (length p)
+    went : afterPiece m s p ≡ continued s (here s p) (length p)
     went = piece-goes m s p h .0
 
-    goes-more : (b : Bool) → afterPiece m s p .replay .stopped ≡ b → afterPiece m s p .more ≡ (eqb (length p) fullPiece && not b)
+    goes-more : (b : Bool) → afterPiece m s p .reader .stopped ≡ b → afterPiece m s p .more ≡ (eqb (length p) fullPiece && not b)
     goes-more b q =
         ap (λ (t : Session). t .more) went
-        ∙ ap (λ (c : Bool). eqb (length p) fullPiece && not c) (sym (ap (λ (t : Session). t .replay .stopped) went) ∙ q)
+        ∙ ap (λ (c : Bool). eqb (length p) fullPiece && not c) (sym (ap (λ (t : Session). t .reader .stopped) went) ∙ q)
 
-    broken : afterPiece m s p .replay .stopped ≡ true → afterPiece m s p .more ≡ false
+    broken : afterPiece m s p .reader .stopped ≡ true → afterPiece m s p .more ≡ false
     broken q = goes-more true q ∙ and-false (eqb (length p) fullPiece)
 
-    unbroken : afterPiece m s p .replay .stopped ≡ false → length p ≡ 61440 → afterPiece m s p .more ≡ true
+    unbroken : afterPiece m s p .reader .stopped ≡ false → length p ≡ 61440 → afterPiece m s p .more ≡ true
     unbroken q e = goes-more false q ∙ (λ j. eqb (e j) fullPiece && true)
 
     last-piece : (length p ≡ 61440 → ⊥) → afterPiece m s p .more ≡ false
-    last-piece e = ap (λ (t : Session). t .more) went ∙ (λ j. ne-eqb (length p) fullPiece e j && not (afterInput m (s .replay) p .stopped))
+    last-piece e = ap (λ (t : Session). t .more) went ∙ (λ j. ne-eqb (length p) fullPiece e j && not (here s p .replay .stopped))
 
   -- ---- from the starts
 
@@ -185,10 +208,10 @@ module _ (m : Memory) where
   in-pieces = record {
     whole = whole;
     ended = λ s ps qs h.
-        written-append s ps qs ∙ ap (λ (l : List ℕ). piecesLines m s ps ++ l) (ended-writes (afterPieces m s ps) h qs);
+        pieces-append s ps qs ∙ ap (λ (l : List ℕ). piecesLines m s ps ++ l) (ended-writes (afterPieces m s ps) h qs);
     unended = λ s ps h. none-written (afterPieces m s ps) h;
     refused = refused-writes;
-    read = λ s p h. ap (λ (t : Session). t .replay) (went s p h);
+    read = λ s p h. ap readingIn (went s p h) ∙ reading-left s p (length p);
     broken = broken;
     unbroken = unbroken;
     last = last-piece;

@@ -1,13 +1,14 @@
 -- What replay writes behind the lines of the records: the saved text of the end state, the ranges of the map, and the bytes left over.
-use Prim.Native.Nat.{ℕ, _%_}
-use mathlib.Core.Bool.{Bool, cond}
+use Prim.Native.Nat.{ℕ}
+use mathlib.Core.Bool.{cond}
 use mathlib.Core.List.{List, [], _∷_, _++_}
 use lib.Dec.{eqb}
 use Rattle.pmp.specs.Rule.{none}
+use Rattle.map.specs.declared.Map.{Map}
 use Rattle.map.specs.declared.Range.{Range}
 use Rattle.map.specs.Lookup.{rangesIn}
+use Rattle.hart.specs.declared.Hart.{Hart}
 use Rattle.lines.specs.Lines.{bytesOf, hexDigits}
-use Rattle.trace.specs.declared.Replay.{Replay}
 use Rattle.trace.specs.Answers.{decimal, numberedLine}
 use Rattle.trace.specs.SavedTexts.{stateText}
 
@@ -22,9 +23,5 @@ unfoldable pub rangeLines : List Range → List ℕ
 rangeLines [] = []
 rangeLines (r ∷ rs) = rangeLine r ++ rangeLines rs
 
-unfoldable pub ending : Replay → ℕ → List ℕ
-ending r left = stateText (r .hart) ++ (rangeLines (rangesIn (r .map)) ++ numberedLine (bytesOf "left ") left)
-
--- the bytes short of a record at the end; 0 after refusal 8
-abbrev pub leftOver : Bool → ℕ → ℕ
-leftOver stopped came = cond stopped 0 (came % 60)
+unfoldable pub ending : Hart → Map → ℕ → List ℕ
+ending h map left = stateText h ++ (rangeLines (rangesIn map) ++ numberedLine (bytesOf "left ") left)

@@ -1,8 +1,8 @@
 -- A claim over whole traces: full pieces and a shorter last one write what the trace at once gives, from either start, with the same memory lent at each
 -- record (02, [8]).
-use Prim.Native.Nat.{ℕ, _%_, _<_}
+use Prim.Native.Nat.{ℕ, _<_}
 use mathlib.Core.Path.{_≡_}
-use mathlib.Core.Bool.{true, false, cond}
+use mathlib.Core.Bool.{true, false}
 use mathlib.Core.List.{List, [], _∷_, _++_}
 use lib.ListN.{length}
 use Rattle.steps.specs.declared.Answer.the-variants.{Done, Refused}
@@ -14,17 +14,20 @@ use Rattle.hart.specs.Steps.{resetMapped, handedBack}
 use Rattle.text.specs.declared.Form.{Form}
 use Rattle.text.specs.Text.{readText}
 use Rattle.hart.specs.Saved.{readAnew}
-use Rattle.trace.specs.declared.Replay.{Replay}
 use Rattle.trace.specs.declared.Session.{Session}
 use Rattle.trace.specs.Answers.{refusedLine}
-use Rattle.trace.specs.Batches.{afterInput, inputLines}
+use Rattle.trace.specs.Replies.{replyLine, written}
+use Rattle.trace.specs.Reading.{Reading, reading, afterBytes, repliesTo}
+use Rattle.trace.specs.Feeding.{newReader}
 use Rattle.trace.specs.SavedTexts.{formByLength}
 use Rattle.trace.specs.Endings.{ending}
-use Rattle.trace.specs.Sessions.{resetSession, textSession, afterPiece, sessionEnding, afterPieces, allWritten}
+use Rattle.trace.specs.Sessions.{resetSession, textSession, readingIn, afterPiece, sessionEnding, afterPieces, allWritten}
 
--- a trace at once: the lines of its whole records, and the ending with the count of the bytes left over, 0 after a broken record
-abbrev pub replayed : Memory → Replay → List ℕ → List ℕ
-replayed m r trace = inputLines m r trace ++ ending (afterInput m r trace) (cond (afterInput m r trace .stopped) 0 (length trace % 60))
+-- a trace at once: the lines of its records, and the ending with the count of the bytes left over, of which there are none after a broken record
+abbrev pub replayed : Memory → Reading → List ℕ → List ℕ
+replayed m x trace =
+    written replyLine (repliesTo m x trace)
+    ++ ending (afterBytes m x trace .replay .hart) (afterBytes m x trace .replay .map) (length (afterBytes m x trace .left))
 
 -- full pieces and what comes behind them, joined
 abbrev pub joined : List (List ℕ) → List ℕ → List ℕ
@@ -36,11 +39,11 @@ AllFull [] = Unit {0}
 AllFull (piece ∷ pieces) = (length piece ≡ 61440) × AllFull pieces
 
 -- a hart and its map before the first record, and the session that has read nothing
-abbrev pub unread : Hart → Map → Replay
-unread h map = record { hart = h; map = map; number = 0; stopped = false }
+abbrev pub unread : Hart → Map → Reading
+unread h map = reading (record { hart = h; map = map; number = 0; stopped = false }) []
 
 abbrev pub begun : Hart → Map → Session
-begun h map = record { replay = unread h map; left = 0; more = true; refusal = 0 }
+begun h map = record { reader = newReader; hart = h; map = map; more = true; refusal = 0 }
 
 -- a text whose length tells the form, read back
 abbrev pub fromText : List ℕ → Stepped
@@ -49,7 +52,7 @@ fromText text = readAnew (formByLength text) text
 pub record InPieces (m : Memory) : Type 0 where
   -- full pieces and a shorter last one, from any session that has not ended
   pub whole : (start : Session) (full : List (List ℕ)) (last : List ℕ) → start .more ≡ true → start .refusal ≡ 0 → AllFull full → length last < 61440
-      → allWritten m start (full ++ last ∷ []) ≡ replayed m (start .replay) (joined full last)
+      → allWritten m start (full ++ last ∷ []) ≡ replayed m (readingIn start) (joined full last)
   -- after the end further pieces write nothing
   pub ended : (start : Session) (pieces rest : List (List ℕ)) → afterPieces m start pieces .more ≡ false → allWritten m start (pieces ++ rest) ≡ allWritten m start pieces
   -- before it there is no ending
@@ -57,12 +60,12 @@ pub record InPieces (m : Memory) : Type 0 where
   -- a refused text's line is all that is written
   pub refused : (start : Session) (pieces : List (List ℕ)) → start .more ≡ false → (start .refusal ≡ 0 → ⊥)
       → allWritten m start pieces ≡ refusedLine (start .refusal)
-  -- a piece leaves what its whole records leave
-  pub read : (s : Session) (piece : List ℕ) → s .more ≡ true → afterPiece m s piece .replay ≡ afterInput m (s .replay) piece
+  -- a piece leaves what its bytes leave
+  pub read : (s : Session) (piece : List ℕ) → s .more ≡ true → readingIn (afterPiece m s piece) ≡ afterBytes m (readingIn s) piece
   -- after a broken record no more is read
-  pub broken : (s : Session) (piece : List ℕ) → s .more ≡ true → afterPiece m s piece .replay .stopped ≡ true → afterPiece m s piece .more ≡ false
+  pub broken : (s : Session) (piece : List ℕ) → s .more ≡ true → afterPiece m s piece .reader .stopped ≡ true → afterPiece m s piece .more ≡ false
   -- a full piece without one goes on
-  pub unbroken : (s : Session) (piece : List ℕ) → s .more ≡ true → afterPiece m s piece .replay .stopped ≡ false → length piece ≡ 61440
+  pub unbroken : (s : Session) (piece : List ℕ) → s .more ≡ true → afterPiece m s piece .reader .stopped ≡ false → length piece ≡ 61440
       → afterPiece m s piece .more ≡ true
   -- a piece of any other length, as a shorter one, is the last
   pub last : (s : Session) (piece : List ℕ) → s .more ≡ true → (length piece ≡ 61440 → ⊥) → afterPiece m s piece .more ≡ false

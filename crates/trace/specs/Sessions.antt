@@ -1,6 +1,6 @@
 -- A replay whose trace comes in pieces: what is kept from piece to piece, the lines that each piece gives out, and what is written at the end.
-use Prim.Native.Nat.{ℕ, _*_, _/_}
-use mathlib.Core.Bool.{false, cond, not, _&&_}
+use Prim.Native.Nat.{ℕ, _+_, _*_, _/_}
+use mathlib.Core.Bool.{cond, not, _&&_}
 use mathlib.Core.List.{List, [], _++_}
 use lib.Dec.{eqb, ltb}
 use lib.ListN.{length}
@@ -12,20 +12,22 @@ use Rattle.hart.specs.declared.Hart.{Hart}
 use Rattle.hart.specs.declared.Stepped.{Stepped}
 use Rattle.hart.specs.Steps.{resetMapped}
 use Rattle.hart.specs.Saved.{readAnew}
-use Rattle.trace.specs.declared.Replay.{Replay}
 use Rattle.trace.specs.declared.Session.{Session}
-use Rattle.trace.specs.declared.Fed.{Fed}
+use Rattle.trace.specs.declared.Written.{Written}
 use Rattle.trace.specs.Buffers.{writtenLength}
 use Rattle.trace.specs.Answers.{refusedLine}
-use Rattle.trace.specs.Batches.{afterInput, inputLines}
+use Rattle.trace.specs.Replies.{replyLine, written}
+use Rattle.trace.specs.Reading.{Reading, afterBytes, repliesTo}
+use Rattle.trace.specs.Feeding.{newReader, leftCount, readingOf, readerOf}
 use Rattle.trace.specs.SavedTexts.{formByLength}
-use Rattle.trace.specs.Endings.{ending, leftOver}
+use Rattle.trace.specs.Endings.{ending}
 
 -- a session that starts with a hart and its map; a refusal other than 0 has ended it
 abbrev pub sessionFrom : Hart → Map → ℕ → Session
 sessionFrom h map refusal = record {
-  replay = record { hart = h; map = map; number = 0; stopped = false };
-  left = 0;
+  reader = newReader;
+  hart = h;
+  map = map;
   more = eqb refusal 0;
   refusal = refusal;
 }
@@ -41,39 +43,46 @@ readSession read = sessionFrom (read .hart) (read .map) (refusalOf (read .answer
 unfoldable pub textSession : List ℕ → Session
 textSession text = readSession (readAnew (formByLength text) text)
 
--- a full piece has 1,024 records
+-- a full piece has 61,440 bytes, as many as 1,024 records have
 abbrev pub fullPiece : ℕ
 fullPiece = 61440
 
+-- the reader of a session, with its hart and map
+abbrev pub readingIn : Session → Reading
+readingIn s = readingOf (s .reader) (s .hart) (s .map)
+
 -- a piece that is not full is the last one, and after a broken record no more is read
-abbrev pub continued : Session → Replay → ℕ → Session
-continued s r came = record {
-  replay = r;
-  left = leftOver (r .stopped) came;
-  more = eqb came fullPiece && not (r .stopped);
+abbrev pub continued : Session → Reading → ℕ → Session
+continued s x came = record {
+  reader = readerOf x;
+  hart = x .replay .hart;
+  map = x .replay .map;
+  more = eqb came fullPiece && not (x .replay .stopped);
   refusal = s .refusal;
 }
 
--- 64 bytes for the line of each whole record
+-- 64 bytes for the line of each whole record, and of one that was begun before
 abbrev pub pieceRoom : List ℕ → ℕ
-pieceRoom piece = 64 * (length piece / 60)
+pieceRoom piece = 64 * (length piece / 60 + 1)
 
--- the ending, or the line of the refusal alone; nothing where there may be more input
+-- the ending, with the count of the bytes left over, or the line of the refusal alone; nothing where there may be more input
 unfoldable pub sessionEnding : Session → List ℕ
-sessionEnding s = cond (s .more) [] (cond (eqb (s .refusal) 0) (ending (s .replay) (s .left)) (refusedLine (s .refusal)))
+sessionEnding s =
+    cond (s .more) []
+    (cond (eqb (s .refusal) 0) (ending (s .hart) (s .map) (leftCount (s .reader .stopped) (s .reader .count))) (refusedLine (s .refusal)))
 
 -- every record of every piece is lent the same memory (02, [8])
 module _ (m : Memory) where
   -- what a piece leaves, and its lines; a session that has ended stays and gives out nothing
   unfoldable pub afterPiece : Session → List ℕ → Session
-  afterPiece s piece = cond (s .more) (continued s (afterInput m (s .replay) piece) (length piece)) s
+  afterPiece s piece = cond (s .more) (continued s (afterBytes m (readingIn s) piece) (length piece)) s
 
   unfoldable pub pieceLines : Session → List ℕ → List ℕ
-  pieceLines s piece = cond (s .more) (inputLines m (s .replay) piece) []
+  pieceLines s piece = cond (s .more) (written replyLine (repliesTo m (readingIn s) piece)) []
 
   -- feeding a piece; with a smaller buffer nothing is done
-  unfoldable pub fed : Session → List ℕ → List ℕ → Fed
-  fed s piece buffer = record {
+  unfoldable pub fedPiece : Session → List ℕ → List ℕ → Written
+  fedPiece s piece buffer = record {
     session = cond (ltb (length buffer) (pieceRoom piece)) s (afterPiece s piece);
     filled = writtenLength (pieceRoom piece) (pieceLines s piece) buffer;
   }

@@ -1,18 +1,17 @@
 // What is written behind the lines of the records.
-use crate::Replay;
 use crate::saved::put_state;
 use crate::writer::put;
 use crate::writer::put_decimal;
 use crate::writer::put_numbered;
 use crate::writer::put_word;
+use hart::Hart;
 use map::Map;
 use map::Range;
-ghost use mathlib.Core.Path.{_≡_};
 ghost use Prim.Native.Nat.{_+_, _≤_};
 ghost use lib.ListN.{length};
 ghost use Rattle.map.specs.Lookup.{rangesIn};
 ghost use Rattle.trace.specs.Buffers.{Put};
-ghost use Rattle.trace.specs.Endings.{ownerText, rangeLine, rangeLines, ending, leftOver};
+ghost use Rattle.trace.specs.Endings.{ownerText, rangeLine, rangeLines, ending};
 
 fn put_owner(owner: u64, out: &mut [u8], place: usize) -> usize
     requires { ⌜ place + 20 ≤ length (now out) ⌝ }
@@ -51,20 +50,11 @@ fn put_ranges(map: Map, out: &mut [u8], place: usize) -> usize
     next
 }
 
-// The bytes short of a record, of those that came last.
-pub(crate) fn left_over(stopped: bool, came: usize) -> u64
-    ensures { λ r. ⌜ r ≡ leftOver stopped came ⌝ }
-{
-    if stopped { 0 } else { (came % 60) as u64 }
-}
-
 // The saved text of the end state, the ranges of the map and the bytes left over.
-pub(crate) fn put_ending(replay: Replay, left: u64, out: &mut [u8]) -> usize
+pub(crate) fn put_ending(hart: Hart, map: Map, left: u64, out: &mut [u8]) -> usize
     requires { ⌜ 4096 ≤ length (now out) ⌝ }
-    ensures { λ r. ⌜ Put (now (out .entry)) 0 (ending replay left) (now (out .exit)) r ⌝ }
+    ensures { λ r. ⌜ Put (now (out .entry)) 0 (ending hart map left) (now (out .exit)) r ⌝ }
 {
-    let hart = replay.hart;
-    let map = replay.map;
     let mut next = put_state(hart, out);
     next = put_ranges(map, out, next);
     put_numbered(b"left ", left, out, next)

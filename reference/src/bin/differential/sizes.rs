@@ -9,6 +9,7 @@ pub struct Sizes {
     pub texts: u64,
     pub calls: u64,
     pub paging: u64,
+    pub feeds: u64,
     /// Tell every case before it is done.
     pub loud: bool,
     /// Do this one case of each stage, and tell what is lent to each call.
@@ -24,6 +25,7 @@ const FULL: Sizes = Sizes {
     texts: 200_000,
     calls: 100_000,
     paging: 100_000,
+    feeds: 600_000,
     loud: false,
     only: None,
 };
@@ -37,6 +39,7 @@ const SMALL: Sizes = Sizes {
     texts: 10_000,
     calls: 5_000,
     paging: 5_000,
+    feeds: 30_000,
     ..FULL
 };
 
@@ -69,6 +72,7 @@ impl Sizes {
             "texts" => &mut self.texts,
             "calls" => &mut self.calls,
             "paging" => &mut self.paging,
+            "feeds" => &mut self.feeds,
             "only" => self.only.insert(0),
             _ => return Err(format!("{name}: no such size")),
         };

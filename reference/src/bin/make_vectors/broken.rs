@@ -25,10 +25,20 @@ fn broken_records() -> Vec<Vector> {
         ("record-carriage-return", with(&damaged(21, b'\r'))),
         ("record-key", with(&damaged(22, b'A'))),
         ("record-first", [records(&[[0, 1, 0]]), good.clone()].concat()),
+        ("record-last-byte", with(&damaged(59, b'\r'))),
+        ("record-wide-step", with(&records(&[[1 << 32 | 11, 0, 0]]))),
+        // Refused steps count, and what is behind is no part of a record.
+        ("record-after-refusals", [&refused()[..], &good[1..]].concat()),
+        ("record-with-part-behind", [with(&damaged(0, b'S')), good[..30].to_vec()].concat()),
     ]
     .into_iter()
     .map(|(name, trace)| Vector::new(name, None, trace))
     .collect()
+}
+
+/// Steps that are refused, by 1 and 2.
+fn refused() -> Vec<u8> {
+    records(&[[15, 0, 3], [4, 0x1000, 0], [5, 8, 0], [6, 1, 0], [16, 0, 0]])
 }
 
 fn ends() -> Vec<Vector> {
@@ -38,6 +48,11 @@ fn ends() -> Vec<Vector> {
         Vector::new("left-1", None, [&steps[..], b"s"].concat()),
         Vector::new("left-59", Some(saved(&start)), [&steps[..], &steps[..59]].concat()),
         Vector::new("left-of-garbage", None, vec![0xFF; 59]),
+        Vector::new(
+            "left-of-broken",
+            None,
+            [refused(), records(&[[18, 0, 0]])[..59].to_vec()].concat(),
+        ),
         Vector::new("empty", None, Vec::new()),
         Vector::new("empty-with-start", Some(saved(&start)), Vec::new()),
     ]

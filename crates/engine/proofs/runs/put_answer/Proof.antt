@@ -1,4 +1,6 @@
+use mathlib.Core.Path.{_∙_}
 use Rattle.engine.proofs.RunLaws.{four-put}
+use Rattle.steps.proofs.AnswerLaws.{words-are-numbers}
 use borrow.Author.Needs.{needs}
 use Rattle.engine.proofs.runs.put_answer.Statement.{statement}
 use Rattle.engine.proofs.runs.put_answer.Tie as tie
@@ -11,7 +13,7 @@ returns c =
     let x = y .before .before .before .before in
     let n = x .before .before in
     let b = n .before .before in
-    four-put (b .args .answers .now) (b .args .place) (b .args .answer) (n .answer-numbers .ensures) (x .put .ensures) (y .put2 .ensures) (z .put3 .ensures) (u .put4 .ensures)
+    four-put (b .args .answers .now) (b .args .place) (b .args .answer) (n .answer-words .ensures ∙ words-are-numbers (b .args .answer) (b .pre .0)) (x .put .ensures) (y .put2 .ensures) (z .put3 .ensures) (u .put4 .ensures)
 
 pub put-answer-spec : {M : Type 1} → statement M
 put-answer-spec =

@@ -12,8 +12,10 @@ use Rattle.paging.specs.Memory.{Memory, memoryAt}
 use Rattle.state.specs.Hold.{canHold}
 use Rattle.state.specs.Words.{stateOf}
 use Rattle.state.proofs.SliceLaws.{all-loaded}
+use Rattle.engine.specs.declared.Told.{Told}
+use Rattle.engine.specs.Taking.{namedTaken}
 use Rattle.engine.specs.Runs.{lent, afterAll, answersOf, anyRemaps}
-use Rattle.engine.proofs.RunLaws.{named-plain, held-next, state-next, remap-next, answers-next, state-end, remap-end, answers-end}
+use Rattle.engine.proofs.RunLaws.{held-next, state-next, remap-next, answers-next, state-end, remap-end, answers-end}
 use Rattle.engine.proofs.runs.run_steps.Statement.{statement}
 use Rattle.engine.proofs.runs.run_steps.Tie as tie
 
@@ -49,76 +51,68 @@ at c = named (start (c .before) .args .steps .now) (c .before .loop .i) (c .loop
 short : (c : tie.In-loop Inv-loop μ-loop) → length (start (c .before) .args .steps .now) * 8 < 2 ^ 63
 short c = start (c .before) .good .1 .1 .1 .0 .1
 
-add-take-named : tie.Need-add-take-named Inv-loop μ-loop
-add-take-named c = omega (arith, at (c .before .before) .room)
+add-take-into : tie.Need-add-take-into Inv-loop μ-loop
+add-take-into c = omega (arith, at (c .before .before) .room)
 
-mul-take-named-2 : tie.Need-mul-take-named-2 Inv-loop μ-loop
-mul-take-named-2 c = omega (arith, at (c .before .before) .room)
+mul-take-into-2 : tie.Need-mul-take-into-2 Inv-loop μ-loop
+mul-take-into-2 c = omega (arith, at (c .before .before) .room)
 
-shared-slice-read-take-named-2 : tie.Need-shared-slice-read-take-named-2 Inv-loop μ-loop
-shared-slice-read-take-named-2 c = omega (arith, at (c .before .before .before) .room)
+shared-slice-read-take-into-2 : tie.Need-shared-slice-read-take-into-2 Inv-loop μ-loop
+shared-slice-read-take-into-2 c = omega (arith, at (c .before .before .before) .room)
 
-add-take-named-2 : tie.Need-add-take-named-2 Inv-loop μ-loop
-add-take-named-2 c = omega (arith, at (c .before .before .before) .room)
+add-take-into-2 : tie.Need-add-take-into-2 Inv-loop μ-loop
+add-take-into-2 c = omega (arith, at (c .before .before .before) .room)
 
-mul-take-named-3 : tie.Need-mul-take-named-3 Inv-loop μ-loop
-mul-take-named-3 c = omega (arith, at (c .before .before .before) .room)
+mul-take-into-3 : tie.Need-mul-take-into-3 Inv-loop μ-loop
+mul-take-into-3 c = omega (arith, at (c .before .before .before) .room)
 
-shared-slice-read-take-named-3 : tie.Need-shared-slice-read-take-named-3 Inv-loop μ-loop
-shared-slice-read-take-named-3 c = omega (arith, at (c .before .before .before .before) .room)
+shared-slice-read-take-into-3 : tie.Need-shared-slice-read-take-into-3 Inv-loop μ-loop
+shared-slice-read-take-into-3 c = omega (arith, at (c .before .before .before .before) .room)
 
-take-named-requires : tie.Need-take-named-requires Inv-loop μ-loop
-take-named-requires c κs = c .before .before .before .before .before .loop .inv .1
+-- where the turn began
+abbrev inside : tie.After-take-into Inv-loop μ-loop → tie.In-loop Inv-loop μ-loop
+inside c = c .before .before .before .before .before .before
 
--- the step of this turn, and where the turn began
-abbrev turn : tie.After-put-answer-arg Inv-loop μ-loop → tie.After-take-named Inv-loop μ-loop
-turn c = c .before .before .before
-
-abbrev inside : tie.After-take-named Inv-loop μ-loop → tie.In-loop Inv-loop μ-loop
-inside c = c .before .before .before .before .before
-
-put-answer-requires : tie.Need-put-answer-requires Inv-loop μ-loop
-put-answer-requires c κs =
-    let t = turn c in
-    let i = inside t in
+take-into-requires : tie.Need-take-into-requires Inv-loop μ-loop
+take-into-requires c κs =
+    let i = c .before .before .before .before .before in
     let l = i .before .loop in
-    let v = start (i .before) .args .steps .now in (
-      named-plain (l .held) (stateOf (l .words)) (lends (i .before)) (decoded (getD v (l .i) 0) (getD v (l .i + 1) 0) (getD v (l .i + 2) 0)) (t .take-named .ensures .0),
-      omega (arith, at i .room, short i, l .inv .8),
-    )
+    (l .inv .1, omega (arith, at i .room, short i, l .inv .8))
 
 add-i : tie.Need-add-i Inv-loop μ-loop
-add-i c = let i = inside (turn (c .before .before .before .before)) in omega (arith, at i .room, short i)
+add-i c = let i = inside (c .before .before .before .before .before) in omega (arith, at i .room, short i)
 
 add-place : tie.Need-add-place Inv-loop μ-loop
 add-place c =
-    let i = inside (turn (c .before .before .before .before)) in
+    let i = inside (c .before .before .before .before .before) in
     omega (arith, at i .room, short i, i .before .loop .inv .8)
 
 loop-less : tie.Need-loop-less Inv-loop μ-loop
-loop-less c = omega (arith, at (inside (turn (c .before .before .before .before))) .room)
+loop-less c = omega (arith, at (inside (c .before .before .before .before .before)) .room)
 
 loop-again : tie.Need-loop-again Inv-loop μ-loop
 loop-again c =
-    let p = c .before .before .before in
-    let t = turn (p .before) in
-    let i = inside t in
+    let k = c .before .before .before .before .before in
+    let i = inside k in
     let l = i .before .loop in
     let v = start (i .before) .args .steps .now in
     let m = lends (i .before) in
     let s = stateOf (l .words) in
     let n = at i in
-    let e = t .take-named .ensures .0 in
-    let f = t .take-named .ensures .1 in
+    let t = namedTaken (l .held) s m (decoded (getD v (l .i) 0) (getD v (l .i + 1) 0) (getD v (l .i + 2) 0)) in
+    let e = k .take-into .ensures .0 in
+    let f = k .take-into .ensures .1 .0 in
+    let put = k .take-into .ensures .1 .1 in
     let h = l .inv .4 in (
       n .room,
       search needs,
-      ap length (p .put-answer .ensures) ∙ length-sets (l .answers) (l .place) (answerNumbers (t .take-named .result .answer)) ∙ l .inv .2,
+      ap length put ∙ length-sets (l .answers) (l .place) (answerNumbers (t .answer)) ∙ l .inv .2,
       n .rest,
-      held-next v (l .i) m (l .held) s _ (t .take-named .result) n h e f,
-      state-next v (l .i) m (l .held) s _ (t .take-named .result) n h e f ∙ l .inv .5,
-      remap-next v (l .i) m (l .held) s _ (t .take-named .result) n h e f (l .remap) ∙ l .inv .6,
-      answers-next v (l .i) m (l .held) s _ (t .take-named .result) n h e f (l .place) (l .answers) _ (p .put-answer .ensures) ∙ l .inv .7,
+      ap (λ (x : Told). x .held) e ∙ held-next v (l .i) m (l .held) s _ t n h refl f,
+      state-next v (l .i) m (l .held) s _ t n h refl f ∙ l .inv .5,
+      (λ j. (l .remap || e j .remap) || anyRemaps (stateOf (k .take-into .last .0)) (lent m (stepsOf (drop (l .i + 3) v))))
+          ∙ remap-next v (l .i) m (l .held) s _ t n h refl f (l .remap) ∙ l .inv .6,
+      answers-next v (l .i) m (l .held) s _ t n h refl f (l .place) (l .answers) _ put ∙ l .inv .7,
       omega (arith, l .inv .8),
     )
 
@@ -143,14 +137,13 @@ run-steps-spec =
     loop-holds
     (λ c. search needs)
     (λ c. search needs)
-    add-take-named
-    mul-take-named-2
-    shared-slice-read-take-named-2
-    add-take-named-2
-    mul-take-named-3
-    shared-slice-read-take-named-3
-    take-named-requires
-    put-answer-requires
+    add-take-into
+    mul-take-into-2
+    shared-slice-read-take-into-2
+    add-take-into-2
+    mul-take-into-3
+    shared-slice-read-take-into-3
+    take-into-requires
     add-i
     add-place
     loop-less

@@ -1,7 +1,7 @@
 use borrow.Author.Needs.{needs}
 use borrow.Author.Tests.{not-true, not-false}
 use Rattle.paging.specs.Memory.{memoryAt}
-use Rattle.trace.proofs.Sessions.{feed-ended, feed-small, feed-done}
+use Rattle.trace.proofs.SessionLaws.{feed-ended, feed-small, feed-done}
 use Rattle.trace.proofs.Session.feed.Statement.{statement}
 use Rattle.trace.proofs.Session.feed.Tie as tie
 
@@ -17,12 +17,23 @@ returns-2 c =
 
 returns-3 : tie.Need-returns-3
 returns-3 c =
-    let l = c .before in
-    let b = l .before .before .before .before in
-    let e = b .before .before .before in
+    let b = c .before .before .before in
+    let r = b .before .before .before .before .before in
+    let w = r .before .before .before .before .before in
+    let e = w .before .before .before .before in
     let a = e .before .before .before .before .before .before .args in
-    feed-done (memoryAt (a .memory .now) (a .base)) (a .self) (a .piece .now) (a .out .now) (b .batch .result .replay) (b .batch .last .1 .1 .1 .0) (not-false _ (e .before .if1 .left)) (e .if2 .left)
-    (b .batch .ensures .0) (b .batch .ensures .1) (l .left-over .ensures)
+    feed-done (memoryAt (a .memory .now) (a .base)) (a .self) (a .piece .now) (a .out .now) {after = r .read .last .1 .1 .1 .1 .1 .1 .1 .1 .0}
+    (not-false _ (e .before .if1 .left)) (e .if2 .left) (w .to-words .ensures .1) (r .read .ensures .0 (a .self .map)) (b .handed-back .ensures)
 
 pub feed-spec : {M : Type 1} → statement M
-feed-spec = tie.close (tie.spec returns returns-2 (λ c κs. search needs) (λ c κs. search needs) (λ c. search needs) returns-3)
+feed-spec =
+    tie.close
+    (tie.spec
+    returns
+    returns-2
+    (λ c κs. search needs)
+    (λ c. search needs)
+    (λ c κs. search needs)
+    (λ c κs. search needs)
+    (λ c. search needs)
+    returns-3)

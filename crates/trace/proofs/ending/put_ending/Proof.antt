@@ -11,15 +11,15 @@ use Rattle.trace.proofs.ending.put_ending.Tie as tie
 put-ranges-requires : tie.Need-put-ranges-requires
 put-ranges-requires c κs =
     let s = c .before .before .before in
-    let b = s .before .before .before .before .before in
-    omega (arith, b .pre, s .put-state .ensures .behind, put-length (s .put-state .ensures), state-length (b .args .replay .hart))
+    let b = s .before .before .before in
+    omega (arith, b .pre, s .put-state .ensures .behind, put-length (s .put-state .ensures), state-length (b .args .hart))
 
 put-numbered-requires : tie.Need-put-numbered-requires
 put-numbered-requires c κs =
     let r = c .before .before .before .before in
     let s = r .before .before .before .before in
-    let b = s .before .before .before .before .before in
-    let g = b .args .replay in
+    let b = s .before .before .before in
+    let g = b .args in
     omega (
       arith,
       b .pre,
