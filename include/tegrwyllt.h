@@ -24,20 +24,6 @@
  * added for each word is above 2^56, is refusal 13 at steps 14 to 16. A query is
  * about a physical address, so it is lent no memory.
  *
- * A ledger of cycles is 12 words: ten totals, of tenants 0 to 7, the house and idle; the
- * current tenant; and 1 while the hart is idle, else 0. All zeros are a new one. A length of
- * 0 lends none, and then nothing is counted. The cycles of each elapsed step, 17, go to one
- * total: idle's, if a completed WFI came before and since it only steps 6, 17, 18 or a step 7
- * that answered no, refused steps aside; else the house's, if the mode is M; else the current
- * tenant's. It counts whether or not mcycle is inhibited. Step 18 names the tenant, a from 0
- * to 7, with b 0: it is done, and leaves hart and map as they are. It is there only where a
- * ledger is lent. A reset, or a text that is read, keeps the totals, ends idle and makes
- * tenant 0 current.
- *
- * Refusal 9 is a step 18 with any other a or b, and any step but 0 where the ledger's tenant
- * is above 7; it comes right after refusal 3. Refusal 10, after 9, is an elapsed step whose
- * total would pass 2^64-1. A refusal changes neither hart nor ledger.
- *
  * A saved text has one of two forms. Form 1 is 41 lines, 1027 bytes: it has no
  * place for satp, the grain, SUM and a delegated page fault. Form 2 has all of
  * them: a line that tells the form, those 41 lines, satp and the grain, 1094 bytes.
@@ -62,9 +48,8 @@
  * with 16 lower-case hexadecimal digits and a line feed. Arguments that the step does
  * not use are 0. It may come in scraps of any length, cut anywhere: however it is cut,
  * and whatever room there is for answers, these are the same in the end, and so are
- * the hart, the map, the ledger, the number of the next record, whether the reader has
- * stopped and the bytes left over, where each record is lent the same memory, and the
- * ledger, if there is one, is lent to every feed.
+ * the hart, the map, the number of the next record, whether the reader has stopped and
+ * the bytes left over, where each record is lent the same memory.
  *
  * A reader of a trace is 59 bytes and a place. The bytes are those of a record that
  * is not whole yet, and 0 behind them. The place is four words: how many bytes they
@@ -72,11 +57,10 @@
  * reader has stopped, else 0; and the number of answers that the last feed wrote. All
  * zeros are a reader before the first byte.
  *
- * A record with another line, a step above 17, or above 18 with a ledger, or an unused
- * argument that is not 0 is broken: refusal 8, judged once all its 60 bytes are there,
- * whose answer is the words 5, 8, the record's number and 0. Step 18 uses both of its
- * arguments. The reader has stopped then: it takes all later bytes and ignores them, it
- * carries none, and its number stays that of the broken record.
+ * A record with another line, a step above 17, or an unused argument that is not 0 is
+ * broken: refusal 8, judged once all its 60 bytes are there, whose answer is the words
+ * 5, 8, the record's number and 0. The reader has stopped then: it takes all later bytes
+ * and ignores them, it carries none, and its number stays that of the broken record.
  */
 #ifndef TEGRWYLLT_H
 #define TEGRWYLLT_H
@@ -95,7 +79,6 @@ extern "C" {
 #define TEGRWYLLT_RECORD_BYTES 60
 #define TEGRWYLLT_CARRIED_BYTES 59
 #define TEGRWYLLT_PLACE_WORDS 4
-#define TEGRWYLLT_LEDGER_WORDS 12
 #define TEGRWYLLT_FIRST_FORM 1
 #define TEGRWYLLT_SECOND_FORM 2
 #define TEGRWYLLT_FIRST_TEXT_BYTES 1027
@@ -104,9 +87,8 @@ extern "C" {
 #define TEGRWYLLT_NO_ENTRY 16
 
 /*
- * What save, restore and convert give where the form is neither 1 nor 2, or the hart, the map or the ledger has another length; what feed gives where a
+ * What save, restore and convert give where the form is neither 1 nor 2, or the hart or the map has another length; what feed gives where a
  * length is another, or the word that tells whether the reader has stopped; and what left gives where the length is another.
- * A ledger whose last word is above 1 counts as one of another length, for all functions.
  */
 #define TEGRWYLLT_MISFIT UINT64_MAX
 
@@ -119,29 +101,27 @@ uint64_t tegrwyllt_make(uint64_t grain,
                         uint64_t *map, size_t map_length);
 
 /*
- * One step, 0 to 17, or to 18 with a ledger, with its arguments a and b. Hart, map
- * and ledger become what the step leaves, and answer what it answers. Gives 1; or 0,
- * and changes nothing, where a length or the step's number is another.
+ * One step, 0 to 17, with its arguments a and b. Hart and map become what the
+ * step leaves, and answer what it answers. Gives 1; or 0, and changes nothing,
+ * where a length or the step's number is another.
  */
 uint64_t tegrwyllt_step(uint64_t *hart, size_t hart_length,
                         uint64_t *map, size_t map_length,
                         const uint64_t *memory, size_t memory_length,
                         uint64_t base,
-                        uint64_t *ledger, size_t ledger_length,
                         uint64_t step, uint64_t a, uint64_t b,
                         uint64_t *answer, size_t answer_length);
 
 /*
- * Steps in order, each given what the one before left, the ledger too, and all of
- * them the same memory. A step is three words, its number, a and b; answers has four
- * words for each step. Gives 1; or 0, and changes nothing, where a length or any
- * step's number is another.
+ * Steps in order, each given what the one before left, and all of them the same
+ * memory. A step is three words, its number, a and b; answers has four words for
+ * each step. Gives 1; or 0, and changes nothing, where a length or any step's
+ * number is another.
  */
 uint64_t tegrwyllt_run(uint64_t *hart, size_t hart_length,
                        uint64_t *map, size_t map_length,
                        const uint64_t *memory, size_t memory_length,
                        uint64_t base,
-                       uint64_t *ledger, size_t ledger_length,
                        const uint64_t *steps, size_t steps_length,
                        uint64_t *answers, size_t answers_length);
 
@@ -168,15 +148,13 @@ uint64_t tegrwyllt_save(uint64_t form,
 
 /*
  * Reads a text of a form, 1 or 2, back as a hart and its map; with form 1 satp and the
- * grain are 0. A ledger keeps its totals, ends idle, and has tenant 0 current, whatever
- * it had before. Gives 0; or the refusal's number, 4 or 5; or TEGRWYLLT_MISFIT. Unless 0,
+ * grain are 0. Gives 0; or the refusal's number, 4 or 5; or TEGRWYLLT_MISFIT. Unless 0,
  * nothing is changed.
  */
 uint64_t tegrwyllt_restore(uint64_t form,
                            const uint8_t *text, size_t text_length,
                            uint64_t *hart, size_t hart_length,
-                           uint64_t *map, size_t map_length,
-                           uint64_t *ledger, size_t ledger_length);
+                           uint64_t *map, size_t map_length);
 
 /*
  * Reads a text of the other form, and writes it in the form asked for, 1 or 2, to the
@@ -189,9 +167,9 @@ uint64_t tegrwyllt_convert(uint64_t to,
 
 /*
  * Feeds a scrap of a trace, also an empty one, to a reader. The hart steps at each
- * record that becomes whole, with the memory and the ledger lent now; what the step
- * answers, be it a refusal, is the next four words of answers, whose number is a multiple
- * of four. Words behind those of the last answer are left as they are.
+ * record that becomes whole, with the memory lent now; what the step answers, be it a
+ * refusal, is the next four words of answers, whose number is a multiple of four.
+ * Words behind those of the last answer are left as they are.
  *
  * Gives how many bytes it took: all of them, or, where there is no room for the answer
  * of a record, those before its last byte. A stopped reader takes all. The caller goes
@@ -205,7 +183,6 @@ uint64_t tegrwyllt_feed(uint8_t *carried, size_t carried_length,
                         uint64_t *map, size_t map_length,
                         const uint64_t *memory, size_t memory_length,
                         uint64_t base,
-                        uint64_t *ledger, size_t ledger_length,
                         const uint8_t *scrap, size_t scrap_length,
                         uint64_t *answers, size_t answers_length);
 

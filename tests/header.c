@@ -1,4 +1,4 @@
-/* Each function of the archive through the header: values worked out by hand from the scope document and requests [1], [4], [5], [8] and [9]. */
+/* Each function of the archive through the header: values worked out by hand from the scope document and requests [1], [5], [8] and [9]. */
 #include <inttypes.h>
 #include <stdio.h>
 #include <stdlib.h>
@@ -6,7 +6,7 @@
 
 #include "tegrwyllt.h"
 
-enum { HART = 43, MAP = 100, ANSWER = 4, TEXT = 1027, SECOND = 1094, RECORD = 60, CARRIED = 59, PLACE = 4, LEDGER = 12 };
+enum { HART = 43, MAP = 100, ANSWER = 4, TEXT = 1027, SECOND = 1094, RECORD = 60, CARRIED = 59, PLACE = 4 };
 
 static void expect(int holds, const char *what) {
     if (!holds) {
@@ -15,9 +15,8 @@ static void expect(int holds, const char *what) {
     }
 }
 
-/* No words at address 0, and no ledger, as most calls are lent. */
+/* No words at address 0, as most calls are lent. */
 static const uint64_t none[1];
-static uint64_t unlent[1];
 
 /* Page tables from 0x80000000 on: the root, a table of level 1 and one of level 0. */
 enum { TABLES = 3 * 512, SATP = 41, GRAIN = 42, MTVAL = 14 };
@@ -50,7 +49,7 @@ static void grains(void) {
     /* All ones in pmpaddr0: what is read ends in 00 under OFF, and in 11 under NAPOT. A=2 is left out. */
     const uint64_t ones = (UINT64_C(1) << 54) - 1;
     const uint64_t steps[] = {1, 0x3B0, ones, 4, 0x3B0, 0, 1, 0x3A0, 0x18, 1, 0x3A0, 0x17, 4, 0x3A0, 0, 4, 0x3B0, 0, 1, 0x3B0, 4};
-    expect(tegrwyllt_run(hart, HART, map, MAP, none, 0, 0, unlent, 0, steps, 21, given, 28) == 1, "a run with a grain");
+    expect(tegrwyllt_run(hart, HART, map, MAP, none, 0, 0, steps, 21, given, 28) == 1, "a run with a grain");
     expect(answers(given + 4, 1, ones - 3, 0, 0), "the low two bits read as zeros");
     expect(answers(given + 16, 1, 0x18, 0, 0), "A=2 left the byte as it was");
     expect(answers(given + 20, 1, ones, 0, 0), "the stored value is kept");
@@ -59,11 +58,11 @@ static void grains(void) {
     expect(tegrwyllt_save(1, hart, HART, text, TEXT) == 12, "a grain has no place in the first form: refusal 12");
 
     /* Step 0 keeps the grain; one above 10 can be held by no hart, and becomes 0. */
-    expect(tegrwyllt_step(hart, HART, map, MAP, none, 0, 0, unlent, 0, 0, 0, 0, answer, ANSWER) == 1 && hart[GRAIN] == 2, "reset keeps the grain");
+    expect(tegrwyllt_step(hart, HART, map, MAP, none, 0, 0, 0, 0, 0, answer, ANSWER) == 1 && hart[GRAIN] == 2, "reset keeps the grain");
     hart[GRAIN] = 11;
     expect(tegrwyllt_save(1, hart, HART, text, TEXT) == 3, "refusal 3, before 12");
-    expect(tegrwyllt_step(hart, HART, map, MAP, none, 0, 0, unlent, 0, 11, 0, 0, answer, ANSWER) == 1 && answers(answer, 5, 3, 0, 0), "and at a step");
-    expect(tegrwyllt_step(hart, HART, map, MAP, none, 0, 0, unlent, 0, 0, 0, 0, answer, ANSWER) == 1 && hart[GRAIN] == 0, "reset");
+    expect(tegrwyllt_step(hart, HART, map, MAP, none, 0, 0, 11, 0, 0, answer, ANSWER) == 1 && answers(answer, 5, 3, 0, 0), "and at a step");
+    expect(tegrwyllt_step(hart, HART, map, MAP, none, 0, 0, 0, 0, 0, answer, ANSWER) == 1 && hart[GRAIN] == 0, "reset");
 }
 
 /* A reader with its hart and map, and the answers of a whole trace. */
@@ -78,12 +77,12 @@ static void in_pieces(struct reader *reader, const uint8_t *bytes, size_t length
     for (size_t at = 0; at < length;) {
         const size_t rest = length - at, given = rest < piece ? rest : piece;
         uint64_t *answers = reader->given + ANSWER * reader->answered;
-        uint64_t taken = tegrwyllt_feed(reader->carried, CARRIED, reader->place, PLACE, reader->hart, HART, reader->map, MAP, none, 0, 0, unlent, 0,
+        uint64_t taken = tegrwyllt_feed(reader->carried, CARRIED, reader->place, PLACE, reader->hart, HART, reader->map, MAP, none, 0, 0,
                                         bytes + at, given, answers, ANSWER * room);
         expect(taken <= given && reader->place[3] <= room, "no more is taken and answered than there is");
         if (taken == 0) {
             expect(room == 0 && tegrwyllt_left(reader->place, PLACE) == CARRIED, "only a 60th byte waits for room");
-            taken = tegrwyllt_feed(reader->carried, CARRIED, reader->place, PLACE, reader->hart, HART, reader->map, MAP, none, 0, 0, unlent, 0,
+            taken = tegrwyllt_feed(reader->carried, CARRIED, reader->place, PLACE, reader->hart, HART, reader->map, MAP, none, 0, 0,
                                    bytes + at, given, answers, ANSWER);
             expect(taken > 0 && reader->place[3] == 1, "it has an answer");
         }
@@ -94,7 +93,7 @@ static void in_pieces(struct reader *reader, const uint8_t *bytes, size_t length
 
 /* One feed of a record, with slices of these lengths. */
 static uint64_t feed_of(struct reader *reader, const uint8_t *bytes, size_t carried, size_t place, size_t hart, size_t map, size_t answers) {
-    return tegrwyllt_feed(reader->carried, carried, reader->place, place, reader->hart, hart, reader->map, map, none, 0, 0, unlent, 0, bytes, RECORD,
+    return tegrwyllt_feed(reader->carried, carried, reader->place, place, reader->hart, hart, reader->map, map, none, 0, 0, bytes, RECORD,
                           reader->given, answers);
 }
 
@@ -161,90 +160,14 @@ static void traces(void) {
     expect(tegrwyllt_left(cut.place, 3) == TEGRWYLLT_MISFIT && tegrwyllt_left(cut.place, 5) == TEGRWYLLT_MISFIT, "no place has another length");
 }
 
-/* Whether the totals are 0 but for some of these accounts, and the tenant and idle are these. */
-static int holds(const uint64_t *ledger, uint64_t tenant0, uint64_t tenant5, uint64_t house, uint64_t idle, uint64_t tenant, uint64_t waits) {
-    const uint64_t expected[LEDGER] = {tenant0, 0, 0, 0, 0, tenant5, 0, 0, house, idle, tenant, waits};
-    return memcmp(ledger, expected, sizeof expected) == 0;
-}
-
-/* One step with a ledger, and whether its answer is this. */
-static int step_gives(uint64_t *hart, uint64_t *map, uint64_t *ledger, uint64_t step, uint64_t a, uint64_t b, uint64_t kind, uint64_t value) {
-    uint64_t answer[ANSWER];
-    return tegrwyllt_step(hart, HART, map, MAP, none, 0, 0, ledger, LEDGER, step, a, b, answer, ANSWER) == 1 && answers(answer, kind, value, 0, 0);
-}
-
-/* Cycles of the house, of tenants and of waits; refusals 9 and 10; ledgers that are none. */
-static void ledgers(void) {
-    uint64_t hart[HART], map[MAP], ledger[LEDGER + 1] = {0}, kept[LEDGER + 1], given[6 * ANSWER];
-    uint8_t text[TEXT], carried[CARRIED] = {0};
-    uint64_t place[PLACE] = {0};
-    expect(TEGRWYLLT_LEDGER_WORDS == LEDGER, "12 words");
-    expect(tegrwyllt_make(0, hart, HART, map, MAP) == 1, "a hart to meter");
-
-    /* In M it is the house's, inhibited or not; after WFI idle's, with lines, a name and a refused step in between. */
-    expect(step_gives(hart, map, ledger, 17, 70000, 3, 0, 0) && holds(ledger, 0, 0, 70000, 0, 0, 0), "the house's, in more than 16 bits");
-    expect(step_gives(hart, map, ledger, 1, 0x320, 5, 1, 0) && step_gives(hart, map, ledger, 17, 5, 1, 0, 0), "mcountinhibit");
-    expect(hart[21] == 70000 && holds(ledger, 0, 0, 70005, 0, 0, 0), "the ledger counts where mcycle does not");
-    const uint64_t wait[] = {10, 0, 0, 6, 0x80, 0, 18, 5, 0, 15, 0, 3, 7, 0, 0, 17, 9, 0};
-    expect(tegrwyllt_run(hart, HART, map, MAP, none, 0, 0, ledger, LEDGER, wait, 18, given, 24) == 1, "a run with a ledger");
-    expect(answers(given, 2, 0, 0, 0) && answers(given + 8, 0, 0, 0, 0) && answers(given + 12, 5, 1, 0, 0), "WFI says no, a tenant is named, a size refused");
-    expect(answers(given + 16, 2, 0, 0, 0) && holds(ledger, 0, 0, 70005, 9, 5, 1), "none is taken, and the hart is idle");
-    expect(step_gives(hart, map, ledger, 8, 0, 0, 0, 0) && hart[0] == 0 && holds(ledger, 0, 0, 70005, 9, 5, 0), "MRET to U ends idle");
-    expect(step_gives(hart, map, ledger, 17, 1, 0, 0, 0) && holds(ledger, 0, 1, 70005, 9, 5, 0), "tenant 5's");
-
-    /* Refusals 9 and 10 change nothing. */
-    expect(step_gives(hart, map, ledger, 18, 8, 0, 5, 9) && step_gives(hart, map, ledger, 18, 7, 1, 5, 9), "refusal 9");
-    expect(step_gives(hart, map, ledger, 17, UINT64_MAX, 0, 5, 10), "refusal 10: the total would pass");
-    expect(holds(ledger, 0, 1, 70005, 9, 5, 0), "the ledger stays");
-    expect(step_gives(hart, map, ledger, 17, UINT64_MAX - 1, 0, 0, 0) && holds(ledger, 0, UINT64_MAX, 70005, 9, 5, 0), "it is full");
-    expect(step_gives(hart, map, ledger, 17, 0, 0, 0, 0) && step_gives(hart, map, ledger, 17, 1, 0, 5, 10), "no cycles fit, one does not");
-    ledger[5] = 2;
-
-    /* A trace with a ledger: step 18 is refused, not broken; without one it is broken. */
-    static const char trace[] = "step=0000000000000012\na=0000000000000008\nb=0000000000000001\n"
-                                "step=0000000000000012\na=0000000000000000\nb=0000000000000000\n"
-                                "step=0000000000000011\na=0000000000000004\nb=0000000000000000\n";
-    const uint8_t *bytes = (const uint8_t *)trace;
-    expect(tegrwyllt_feed(carried, CARRIED, place, PLACE, hart, HART, map, MAP, none, 0, 0, ledger, LEDGER, bytes, 100, given, 24) == 100, "100 bytes");
-    expect(tegrwyllt_feed(carried, CARRIED, place, PLACE, hart, HART, map, MAP, none, 0, 0, ledger, LEDGER, bytes + 100, 80, given + 4, 20) == 80, "and 80");
-    expect(answers(given, 5, 9, 0, 0) && answers(given + 4, 0, 0, 0, 0) && answers(given + 8, 0, 0, 0, 0), "refusal 9, and reading goes on");
-    expect(place[1] == 3 && place[2] == 0 && holds(ledger, 4, 2, 70005, 9, 0, 0), "tenant 0's");
-    expect(tegrwyllt_feed(carried, CARRIED, place, PLACE, hart, HART, map, MAP, none, 0, 0, unlent, 0, bytes, 60, given, 24) == 60, "no ledger");
-    expect(answers(given, 5, 8, 3, 0) && place[2] == 1, "refusal 8");
-
-    /* A tenant above 7 is refusal 9 at any step, after 3, but not at a reset or a restore, which make tenant 0 current and end idle. */
-    ledger[10] = 8, ledger[11] = 1;
-    expect(step_gives(hart, map, ledger, 18, 1, 0, 5, 9) && step_gives(hart, map, ledger, 4, 4096, 0, 5, 9), "refusal 9, before 2");
-    hart[0] = 2;
-    expect(step_gives(hart, map, ledger, 18, 1, 0, 5, 3) && holds(ledger, 4, 2, 70005, 9, 8, 1), "refusal 3 before 9");
-    expect(step_gives(hart, map, ledger, 0, 0, 0, 0, 0) && holds(ledger, 4, 2, 70005, 9, 0, 0), "reset");
-    expect(tegrwyllt_save(1, hart, HART, text, TEXT) == 0, "a text to read");
-    ledger[10] = UINT64_MAX, ledger[11] = 1;
-    expect(tegrwyllt_restore(1, text, TEXT - 1, hart, HART, map, MAP, ledger, LEDGER) == 4 && ledger[11] == 1, "a refused text leaves the ledger");
-    expect(tegrwyllt_restore(1, text, TEXT, hart, HART, map, MAP, ledger, LEDGER) == 0 && holds(ledger, 4, 2, 70005, 9, 0, 0), "one that is read does not");
-
-    /* Ledgers of another length, or with another word for idle. */
-    for (size_t length = 1; length <= LEDGER + 1; length++) {
-        ledger[11] = length == LEDGER ? 2 : 0;
-        memcpy(kept, ledger, sizeof kept);
-        expect(tegrwyllt_step(hart, HART, map, MAP, none, 0, 0, ledger, length, 17, 1, 1, given, ANSWER) == 0, "no ledger for a step");
-        expect(tegrwyllt_run(hart, HART, map, MAP, none, 0, 0, ledger, length, wait, 18, given, 24) == 0, "nor for a run");
-        expect(tegrwyllt_feed(carried, CARRIED, place, PLACE, hart, HART, map, MAP, none, 0, 0, ledger, length, bytes, 60, given, 24) == TEGRWYLLT_MISFIT, "nor a feed");
-        expect(tegrwyllt_restore(1, text, TEXT, hart, HART, map, MAP, ledger, length) == TEGRWYLLT_MISFIT, "nor a text");
-        expect(memcmp(kept, ledger, sizeof kept) == 0 && hart[21] == 0, "nothing is changed");
-    }
-    ledger[11] = 0;
-    expect(tegrwyllt_step(hart, HART, map, MAP, none, 0, 0, ledger, LEDGER, 19, 0, 0, given, ANSWER) == 0, "there is no step 19");
-}
-
 int main(void) {
     uint64_t hart[HART] = {0}, map[MAP] = {0}, answer[ANSWER];
 
     /* A state that no hart can hold steps only by a reset. */
     hart[0] = 2;
-    expect(tegrwyllt_step(hart, HART, map, MAP, none, 0, 0, unlent, 0, 11, 0, 0, answer, ANSWER) == 1, "a refused step is a step");
+    expect(tegrwyllt_step(hart, HART, map, MAP, none, 0, 0, 11, 0, 0, answer, ANSWER) == 1, "a refused step is a step");
     expect(answers(answer, 5, 3, 0, 0) && hart[0] == 2, "refusal 3 leaves the hart");
-    expect(tegrwyllt_step(hart, HART, map, MAP, none, 0, 0, unlent, 0, 0, 0, 0, answer, ANSWER) == 1, "reset");
+    expect(tegrwyllt_step(hart, HART, map, MAP, none, 0, 0, 0, 0, 0, answer, ANSWER) == 1, "reset");
     expect(answers(answer, 0, 0, 0, 0), "reset is done");
     expect(hart[0] == 3 && hart[1] == 0x1000 && hart[2] == UINT64_C(0xA00000000), "the reset state");
     expect(map[0] == 1 && map[1] == 0 && map[2] == (UINT64_C(1) << 56) - 1 && map[3] == 16, "the reset map");
@@ -252,7 +175,7 @@ int main(void) {
     /* Entry 0: NA4 at word 3, locked, no rights; an access of 8 bytes at 8 touches it and faults in M too. */
     const uint64_t steps[] = {1, 0x3B0, 3, 1, 0x3A0, 0x90, 15, 0x8, 8, 15, 0x10, 8, 15, 0, 3};
     uint64_t told[20], kept[20];
-    expect(tegrwyllt_run(hart, HART, map, MAP, none, 0, 0, unlent, 0, steps, 15, told, 20) == 1, "a run");
+    expect(tegrwyllt_run(hart, HART, map, MAP, none, 0, 0, steps, 15, told, 20) == 1, "a run");
     expect(answers(told, 1, 0, 0, 0) && answers(told + 4, 1, 0, 0, 0), "CSR writes answer the old value");
     expect(answers(told + 8, 4, 5, 3, 0), "the load faults to M, by entry 0");
     expect(answers(told + 12, 3, 0, 0, TEGRWYLLT_NO_ENTRY), "the load beside it is granted, by none");
@@ -260,7 +183,7 @@ int main(void) {
     expect(map[0] == 3 && map[4] == 0xC && map[5] == 0xF && map[6] == 0, "the map has the entry's bytes");
 
     /* A trap that comes from no access has no entry: ECALL from M. */
-    expect(tegrwyllt_step(hart, HART, map, MAP, none, 0, 0, unlent, 0, 11, 0, 0, answer, ANSWER) == 1 && answers(answer, 4, 11, 3, TEGRWYLLT_NO_ENTRY), "ECALL");
+    expect(tegrwyllt_step(hart, HART, map, MAP, none, 0, 0, 11, 0, 0, answer, ANSWER) == 1 && answers(answer, 4, 11, 3, TEGRWYLLT_NO_ENTRY), "ECALL");
 
     /* The query answers as the step does. */
     expect(tegrwyllt_query(hart, HART, map, MAP, 3, 1, 0x8, 8, answer, ANSWER) == 1 && answers(answer, 6, 5, 0, 0), "a fault by entry 0");
@@ -283,8 +206,8 @@ int main(void) {
     expect(tegrwyllt_save(1, hart, HART, text, TEXT - 1) == 6, "a buffer of 1,026 bytes is refusal 6");
     expect(tegrwyllt_save(1, hart, HART, text, TEXT + 1) == 0 && text[TEXT] == 0x5A, "saved");
     expect(memcmp(text, "mode=0000000000000003\n", 22) == 0, "the first line");
-    expect(tegrwyllt_restore(1, text, TEXT + 1, back, HART, ranges, MAP, unlent, 0) == 4, "1,028 bytes are refusal 4");
-    expect(tegrwyllt_restore(1, text, TEXT, back, HART, ranges, MAP, unlent, 0) == 0, "read back");
+    expect(tegrwyllt_restore(1, text, TEXT + 1, back, HART, ranges, MAP) == 4, "1,028 bytes are refusal 4");
+    expect(tegrwyllt_restore(1, text, TEXT, back, HART, ranges, MAP) == 0, "read back");
     expect(memcmp(hart, back, sizeof hart) == 0 && memcmp(map, ranges, sizeof map) == 0, "the same hart and map");
 
     /* So does it to the second form and back. */
@@ -296,17 +219,17 @@ int main(void) {
     expect(memcmp(second + 22 + TEXT, "satp=0000000000000000\ngrain=0000000000000000\n", 45) == 0, "then satp and the grain");
     expect(tegrwyllt_convert(1, second, SECOND, again, TEXT) == 0 && memcmp(again, text, TEXT) == 0, "and back");
     expect(tegrwyllt_convert(2, second, SECOND, again, TEXT) == 4, "a text of the same form is refusal 4");
-    expect(tegrwyllt_restore(2, text, TEXT, back, HART, ranges, MAP, unlent, 0) == 4, "the other form is refusal 4");
+    expect(tegrwyllt_restore(2, text, TEXT, back, HART, ranges, MAP) == 4, "the other form is refusal 4");
     expect(tegrwyllt_save(0, hart, HART, text, TEXT) == TEGRWYLLT_MISFIT, "there is no form 0");
-    expect(tegrwyllt_restore(3, text, TEXT, back, HART, ranges, MAP, unlent, 0) == TEGRWYLLT_MISFIT, "nor 3");
+    expect(tegrwyllt_restore(3, text, TEXT, back, HART, ranges, MAP) == TEGRWYLLT_MISFIT, "nor 3");
     expect(tegrwyllt_convert(3, text, TEXT, again, TEXT) == TEGRWYLLT_MISFIT, "nor to convert to");
     expect(memcmp(again, text, TEXT) == 0 && memcmp(hart, back, sizeof hart) == 0, "and nothing is changed");
 
     /* Slices of another length change nothing. */
-    expect(tegrwyllt_step(hart, HART - 1, map, MAP, none, 0, 0, unlent, 0, 0, 0, 0, answer, ANSWER) == 0, "42 words are no hart");
-    expect(tegrwyllt_step(hart, HART, map, MAP, none, 0, 0, unlent, 0, 18, 0, 0, answer, ANSWER) == 0, "there is no step 18 without a ledger");
+    expect(tegrwyllt_step(hart, HART - 1, map, MAP, none, 0, 0, 0, 0, 0, answer, ANSWER) == 0, "42 words are no hart");
+    expect(tegrwyllt_step(hart, HART, map, MAP, none, 0, 0, 18, 0, 0, answer, ANSWER) == 0, "there is no step 18");
     memcpy(kept, told, sizeof told);
-    expect(tegrwyllt_run(hart, HART, map, MAP, none, 0, 0, unlent, 0, steps, 15, told, 15) == 0, "three words for each answer are too few");
+    expect(tegrwyllt_run(hart, HART, map, MAP, none, 0, 0, steps, 15, told, 15) == 0, "three words for each answer are too few");
     expect(memcmp(hart, back, sizeof hart) == 0 && memcmp(map, ranges, sizeof map) == 0, "hart and map are left");
     expect(memcmp(told, kept, sizeof told) == 0, "and so are the answers");
 
@@ -314,25 +237,24 @@ int main(void) {
     const uint64_t paging[] = {1, 0x3B1, (UINT64_C(1) << 54) - 1, 1, 0x3A0, 0x1F90, 1, 0x180, UINT64_C(0x8000000000080000), 1, 0x300, 0x20000,
                                15, 0x3FFC, 8, 16, 0x3FFC, 4};
     uint64_t given[24];
-    expect(tegrwyllt_run(hart, HART, map, MAP, tables, TABLES, base, unlent, 0, paging, 18, given, 24) == 1, "a run with page tables");
+    expect(tegrwyllt_run(hart, HART, map, MAP, tables, TABLES, base, paging, 18, given, 24) == 1, "a run with page tables");
     expect(hart[SATP] == UINT64_C(0x8000000000080000) && answers(given + 8, 1, 0, 0, 0), "satp was 0 and is written");
     expect(answers(given + 16, 3, 0, 0, 1), "a load across two pages is granted, by entry 1");
     expect(answers(given + 20, 3, 0, 0, 1), "a store to the first of them is granted");
-    expect(tegrwyllt_step(hart, HART, map, MAP, tables, TABLES, base + 4, unlent, 0, 15, 0x3FFC, 3, answer, ANSWER) == 1, "a base of no whole word");
+    expect(tegrwyllt_step(hart, HART, map, MAP, tables, TABLES, base + 4, 15, 0x3FFC, 3, answer, ANSWER) == 1, "a base of no whole word");
     expect(answers(answer, 5, 13, 0, 0), "refusal 13, before 1");
-    expect(tegrwyllt_step(hart, HART, map, MAP, tables, 1024, base, unlent, 0, 15, 0x3008, 8, answer, ANSWER) == 1, "a table outside the memory");
+    expect(tegrwyllt_step(hart, HART, map, MAP, tables, 1024, base, 15, 0x3008, 8, answer, ANSWER) == 1, "a table outside the memory");
     expect(answers(answer, 4, 5, 3, 16) && hart[MTVAL] == 0x3008, "an access fault at the virtual address");
     hart[2] = UINT64_C(0xA00020000);
-    expect(tegrwyllt_step(hart, HART, map, MAP, tables, TABLES, base, unlent, 0, 16, 0x3FFC, 8, answer, ANSWER) == 1, "a store across");
+    expect(tegrwyllt_step(hart, HART, map, MAP, tables, TABLES, base, 16, 0x3FFC, 8, answer, ANSWER) == 1, "a store across");
     expect(answers(answer, 4, 15, 3, 16) && hart[MTVAL] == 0x4000, "a page fault of its second part");
     expect(tegrwyllt_save(1, hart, HART, text, TEXT) == 12, "satp has no place in the first form: refusal 12");
     expect(tegrwyllt_save(1, hart, HART, text, TEXT - 1) == 6, "after 6");
     expect(tegrwyllt_save(2, hart, HART, second, SECOND) == 0, "it has one in the second");
-    expect(tegrwyllt_restore(2, second, SECOND, back, HART, ranges, MAP, unlent, 0) == 0 && memcmp(hart, back, sizeof hart) == 0, "and is read back");
+    expect(tegrwyllt_restore(2, second, SECOND, back, HART, ranges, MAP) == 0 && memcmp(hart, back, sizeof hart) == 0, "and is read back");
     expect(tegrwyllt_convert(1, second, SECOND, again, TEXT) == 12, "converting has no other place for it");
     grains();
     traces();
-    ledgers();
     puts("header: every function answers as the scope document says");
     return 0;
 }

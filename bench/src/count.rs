@@ -5,13 +5,12 @@ use std::error::Error;
 use std::hint::black_box;
 
 use crate::feeds::Feeds;
-use crate::metered;
 use crate::mixes::{MIXES, Mix};
 use crate::queries::Queries;
 use crate::steps;
 use crate::texts::{CALLS, Call, Texts};
 
-/// `work` is `query`, `feed`, `meter`, the word of a call on texts, or a mix's number.
+/// `work` is `query`, `feed`, the word of a call on texts, or a mix's number.
 pub fn count(work: &str, contender: &str, times: &str) -> Result<(), Box<dyn Error>> {
     let times = times.parse()?;
     let mix = || MIXES.iter().find(|mix| mix.number.to_string() == work);
@@ -19,8 +18,6 @@ pub fn count(work: &str, contender: &str, times: &str) -> Result<(), Box<dyn Err
         query(contender, times)
     } else if work == "feed" {
         feed(contender, times)
-    } else if work == "meter" {
-        meter(contender, times)
     } else if let Some(call) = CALLS.iter().find(|call| call.word == work) {
         text(call, contender, times)
     } else {
@@ -30,7 +27,7 @@ pub fn count(work: &str, contender: &str, times: &str) -> Result<(), Box<dyn Err
 }
 
 fn step(mix: &Mix, contender: &str, times: usize) -> Option<()> {
-    let way = steps::way(contender).or_else(|| metered::way(contender))?;
+    let way = steps::way(contender)?;
     black_box(way(mix, times as u64));
     Some(())
 }
@@ -55,19 +52,6 @@ fn feed(contender: &str, times: usize) -> Option<()> {
         "rust" => _ = black_box(feeds.by_records(times)),
         "bytes" => _ = black_box(feeds.byte_by_byte(times)),
         "product" => _ = black_box(feeds.by_product(times)),
-        _ => return None,
-    }
-    Some(())
-}
-
-/// The same, of another trace, with no ledger and with one.
-fn meter(contender: &str, times: usize) -> Option<()> {
-    let feeds = Feeds::with_cycles(RECORDS);
-    match contender {
-        "rust" => _ = black_box(feeds.by_records(times)),
-        "product" => _ = black_box(feeds.by_product(times)),
-        "metered-rust" => _ = black_box(metered::feed_by_rust(&feeds, times)),
-        "metered-product" => _ = black_box(metered::feed_by_product(&feeds, times)),
         _ => return None,
     }
     Some(())

@@ -13,7 +13,7 @@ use crate::replays;
 /// Bytes of a scrap: no whole number of records.
 pub const SCRAP: usize = 1 << 16;
 /// Room for the answers of a scrap.
-pub const ROOM: usize = SCRAP / RECORD_LENGTH + 1;
+const ROOM: usize = SCRAP / RECORD_LENGTH + 1;
 
 type Answers = [[u64; ANSWER_WORDS]];
 /// Takes the bytes of a scrap; gives how many, and how many answers it wrote.
@@ -32,13 +32,8 @@ impl Feeds {
         Feeds { trace: replays::trace(records) }
     }
 
-    /// With cycles that a ledger has room for.
-    pub fn with_cycles(records: usize) -> Feeds {
-        Feeds { trace: replays::trace_with_cycles(records) }
-    }
-
     /// The first records, and a part of the next where there is one.
-    pub fn scraps(&self, records: usize) -> impl Iterator<Item = &[u8]> {
+    fn scraps(&self, records: usize) -> impl Iterator<Item = &[u8]> {
         let length = self.trace.len().min(RECORD_LENGTH * records + RECORD_LENGTH / 2);
         black_box(&self.trace[..length]).chunks(SCRAP)
     }
@@ -85,7 +80,6 @@ impl Feeds {
                 &mut hart,
                 &mut map,
                 memory,
-                &mut [],
                 scrap,
                 &mut answers,
             );

@@ -9,7 +9,6 @@ mod contest;
 mod count;
 mod csr_table;
 mod feeds;
-mod metered;
 mod mixes;
 mod one_pass;
 mod processor;
@@ -57,8 +56,7 @@ fn report(rounds: u32) -> Result<(), Box<dyn Error>> {
     report_steps(rounds)?;
     report_queries(rounds);
     report_texts(rounds);
-    report_replay(rounds)?;
-    report_meter(rounds)
+    report_replay(rounds)
 }
 
 /// A ratio with the time above the line.
@@ -137,26 +135,5 @@ fn report_replay(rounds: u32) -> Result<(), Box<dyn Error>> {
         ratio(fed.product, fed.rust),
         fed.product / fed.replay,
     );
-    Ok(())
-}
-
-fn report_meter(rounds: u32) -> Result<(), Box<dyn Error>> {
-    println!(
-        "\n| Metering of {} records | Ratio | Over replay | Records a second | MB/s | Peak memory, kB |",
-        replays::RECORDS
-    );
-    println!("|---|---|---|---|---|---|");
-    let rows = replays::meter_rows(rounds)?;
-    for row in &rows {
-        println!(
-            "| {} | {:.2} | {:.2} | {:.2} million | {:.0} | {} |",
-            row.name,
-            row.time / rows[0].time,
-            row.time / rows[2].time,
-            replays::RECORDS as f64 / row.time / 1e6,
-            replays::megabytes() / row.time,
-            row.memory,
-        );
-    }
     Ok(())
 }

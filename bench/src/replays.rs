@@ -1,5 +1,5 @@
 //! Replay of a long trace, by the product's program and by the reference's, and the same
-//! trace fed in scraps. Metering of another, beside its replay.
+//! trace fed in scraps.
 
 use std::error::Error;
 use std::fs::{self, File};
@@ -14,14 +14,11 @@ use reference::{Hart, Map, Memory, RECORD_LENGTH, Step, generate, step, write_re
 
 use crate::contest::{Work, contest};
 use crate::feeds::Feeds;
-use crate::metered;
-use crate::mixes::{MIXES, Words, formed};
+use crate::mixes::formed;
 use crate::processor::{here, in_programs};
 
 const PRODUCT: &str = "target/bin/replay";
 const REFERENCE: &str = "bench/target/release/replay_reference";
-const METER: &str = "target/bin/meter";
-const METER_REFERENCE: &str = "bench/target/release/meter_reference";
 pub const RECORDS: usize = 1_000_000;
 const SEED: u64 = 1;
 /// A replay takes long, so there are fewer rounds than for steps.
@@ -50,17 +47,23 @@ pub fn rows(rounds: u32) -> Result<([Row; 2], FeedRow), Box<dyn Error>> {
     let trace = folder.0.join("trace");
     let feeds = Feeds::new(RECORDS);
     fs::write(&trace, &feeds.trace)?;
-    compare(&folder.0, &trace, [PRODUCT, REFERENCE])?;
+    compare(&folder.0, &trace)?;
     feeds.compare()?;
     let mut contenders: [Work<'_>; 5] = [
-        program(REFERENCE, &trace),
-        program(PRODUCT, &trace),
+        Box::new(|| {
+            in_programs(|| replay(REFERENCE, &trace, Stdio::null()).expect("replayed before"))
+        }),
+        Box::new(|| {
+            in_programs(|| replay(PRODUCT, &trace, Stdio::null()).expect("replayed before"))
+        }),
         Box::new(|| here(|| feeds.by_records(RECORDS))),
         Box::new(|| here(|| feeds.byte_by_byte(RECORDS))),
         Box::new(|| here(|| feeds.by_product(RECORDS))),
     ];
     let best = contest(rounds.min(MOST_ROUNDS), &mut contenders);
-    let row = |name, program, time| row(name, program, &trace, time);
+    let row = |name, program, time: Duration| -> Result<Row, Box<dyn Error>> {
+        Ok(Row { name, time: time.as_secs_f64(), memory: peak_memory(program, &trace)? })
+    };
     let each = |time: Duration| time.as_secs_f64() * 1e9 / RECORDS as f64;
     let fed = FeedRow {
         rust: each(best[2]),
@@ -69,38 +72,6 @@ pub fn rows(rounds: u32) -> Result<([Row; 2], FeedRow), Box<dyn Error>> {
         replay: each(best[1]),
     };
     Ok(([row("replay_reference", REFERENCE, best[0])?, row("replay", PRODUCT, best[1])?], fed))
-}
-
-/// The row of the reference's meter, the product's, and of the product's replay of the same
-/// trace, which names no tenant: all are timed in turn.
-pub fn meter_rows(rounds: u32) -> Result<[Row; 3], Box<dyn Error>> {
-    let folder = Folder::new()?;
-    let trace = folder.0.join("metered");
-    let feeds = Feeds::with_cycles(RECORDS);
-    fs::write(&trace, &feeds.trace)?;
-    compare(&folder.0, &trace, [METER, METER_REFERENCE])?;
-    metered::compare(&MIXES, &feeds)?;
-    let mut contenders =
-        [program(METER_REFERENCE, &trace), program(METER, &trace), program(PRODUCT, &trace)];
-    let best = contest(rounds.min(MOST_ROUNDS), &mut contenders);
-    Ok([
-        row("meter_reference", METER_REFERENCE, &trace, best[0])?,
-        row("meter", METER, &trace, best[1])?,
-        row("replay", PRODUCT, &trace, best[2])?,
-    ])
-}
-
-fn program<'a>(program: &'a str, trace: &'a Path) -> Work<'a> {
-    Box::new(move || in_programs(|| replay(program, trace, Stdio::null()).expect("run before")))
-}
-
-fn row(
-    name: &'static str,
-    program: &str,
-    trace: &Path,
-    time: Duration,
-) -> Result<Row, Box<dyn Error>> {
-    Ok(Row { name, time: time.as_secs_f64(), memory: peak_memory(program, trace)? })
 }
 
 /// A folder that goes away with its value.
@@ -123,32 +94,11 @@ impl Drop for Folder {
 
 /// Random steps from reset, each drawn for the hart that the ones before leave.
 pub fn trace(records: usize) -> Vec<u8> {
-    trace_of(records, |_, words| words)
-}
-
-/// The same with more elapsed steps, of few cycles, and more WFI.
-pub fn trace_with_cycles(records: usize) -> Vec<u8> {
-    trace_of(records, with_cycles)
-}
-
-/// How many cycles and retired instructions an elapsed step has at most.
-const MOST_ELAPSED: u64 = 1 << 20;
-
-fn with_cycles(random: &mut Random, words: Words) -> Words {
-    match (random.below(16), words[0]) {
-        (0..=3, _) | (_, 17) => [17, random.below(MOST_ELAPSED), random.below(MOST_ELAPSED)],
-        (4, _) => [10, 0, 0],
-        _ => words,
-    }
-}
-
-fn trace_of(records: usize, change: fn(&mut Random, Words) -> Words) -> Vec<u8> {
     let mut bytes = Vec::with_capacity(RECORD_LENGTH * records);
     let mut random = Random::new(SEED);
     let (mut hart, mut map) = (Hart::reset(), Map::reset());
     for _ in 0..records {
-        let drawn = generate::step(&mut random, &hart, &map);
-        let next: Step = formed(change(&mut random, drawn));
+        let next: Step = formed(generate::step(&mut random, &hart, &map));
         step(&mut hart, &mut map, Memory::EMPTY, next);
         bytes.extend(write_record(next.to_words()));
     }
@@ -165,7 +115,7 @@ fn replay(program: &str, trace: &Path, output: Stdio) -> Result<(), Box<dyn Erro
 }
 
 /// Both must write the same bytes.
-fn compare(folder: &Path, trace: &Path, programs: [&str; 2]) -> Result<(), Box<dyn Error>> {
+fn compare(folder: &Path, trace: &Path) -> Result<(), Box<dyn Error>> {
     let written = |program, name: &str| -> Result<Vec<u8>, Box<dyn Error>> {
         let path = folder.join(name);
         replay(program, trace, File::create(&path)?.into())?;
@@ -173,9 +123,8 @@ fn compare(folder: &Path, trace: &Path, programs: [&str; 2]) -> Result<(), Box<d
         fs::remove_file(&path)?;
         Ok(bytes)
     };
-    let [product, reference] = programs;
-    if written(product, "product")? != written(reference, "reference")? {
-        return Err(format!("{product} and {reference} write different bytes").into());
+    if written(PRODUCT, "product")? != written(REFERENCE, "reference")? {
+        return Err("the two replays write different bytes".into());
     }
     Ok(())
 }

@@ -87,7 +87,7 @@ pub fn way(name: &str) -> Option<fn(&Mix, u64) -> Checksum> {
 }
 
 /// The words that a mix starts from, in the product's interface.
-pub fn start(mix: &Mix) -> ([u64; HART_WORDS], [u64; MAP_WORDS]) {
+fn start(mix: &Mix) -> ([u64; HART_WORDS], [u64; MAP_WORDS]) {
     let (hart, map) = (mix.start)();
     (hart.to_words(), map.to_words())
 }
@@ -147,7 +147,7 @@ fn one_by_one(mix: &Mix, count: u64) -> Checksum {
     let mut sum = Checksum::default();
     let mut answer = [0; ANSWER_WORDS];
     for &words in endless(mix).take(count as usize) {
-        capi::step(&mut hart, &mut map, mix.memory, &mut [], words, &mut answer);
+        capi::step(&mut hart, &mut map, mix.memory, words, &mut answer);
         sum.add_answer(answer);
     }
     sum.add_left(&hart, &map);
@@ -157,25 +157,20 @@ fn one_by_one(mix: &Mix, count: u64) -> Checksum {
 fn in_batches(mix: &Mix, count: u64) -> Checksum {
     let (mut hart, mut map) = start(mix);
     let mut sum = Checksum::default();
-    let steps = batches(mix);
+    let period = BATCH.max(mix.steps.len());
+    let steps: Vec<u64> = endless(mix).take(period).flatten().copied().collect();
     let batches = steps.chunks_exact(STEP_WORDS * BATCH).cycle();
     let mut answers = vec![0; ANSWER_WORDS * BATCH];
     for batch in batches.take(count as usize / BATCH) {
-        capi::run(&mut hart, &mut map, mix.memory, &mut [], batch, &mut answers);
+        capi::run(&mut hart, &mut map, mix.memory, batch, &mut answers);
         answers.as_chunks().0.iter().for_each(|&answer| sum.add_answer(answer));
     }
     sum.add_left(&hart, &map);
     sum
 }
 
-/// The words of as many steps as there are in the mix, and of a batch at least.
-pub fn batches(mix: &Mix) -> Vec<u64> {
-    let period = BATCH.max(mix.steps.len());
-    endless(mix).take(period).flatten().copied().collect()
-}
-
 /// The mix over and over; its steps are hidden from the compiler.
-pub fn endless(mix: &Mix) -> impl Iterator<Item = &Words> {
+fn endless(mix: &Mix) -> impl Iterator<Item = &Words> {
     black_box(mix.steps).iter().cycle()
 }
 

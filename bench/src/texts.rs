@@ -112,7 +112,7 @@ impl Texts {
         let (mut left, mut left_map) = ([0; HART_WORDS], [0; MAP_WORDS]);
         repeat(count, || {
             let text = black_box(self.text(form));
-            capi::restore(form.number(), text, black_box(&mut left), &mut left_map, &mut []) == 0
+            capi::restore(form.number(), text, black_box(&mut left), &mut left_map) == 0
         });
     }
 
@@ -135,7 +135,7 @@ impl Texts {
         let mut converted = saved.clone();
         let (mut left, mut left_map) = ([0; HART_WORDS], [0; MAP_WORDS]);
         assert_eq!(capi::save(form.number(), &self.words, &mut saved), 0);
-        assert_eq!(capi::restore(form.number(), &saved, &mut left, &mut left_map, &mut []), 0);
+        assert_eq!(capi::restore(form.number(), &saved, &mut left, &mut left_map), 0);
         assert_eq!(capi::convert(form.number(), self.text(form.other()), &mut converted), 0);
         let map = self.map.to_words();
         let listed = 1 + 3 * map[0] as usize;

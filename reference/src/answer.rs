@@ -23,10 +23,6 @@ pub enum Refusal {
     Map = 7,
     /// A record of a trace is broken.
     Record = 8,
-    /// A tenant there is not, named or current in the ledger.
-    Tenant = 9,
-    /// The total of an account would pass 2^64-1.
-    Total = 10,
     /// The state has no text in the form asked for.
     NoText = 12,
     /// The words lent are not at a lawful address.

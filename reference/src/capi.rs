@@ -2,8 +2,7 @@
 //!
 //! A hart is `HART_WORDS` words, a map `MAP_WORDS`, a step `STEP_WORDS` and an
 //! answer `ANSWER_WORDS`. Slices of any length may be lent: the product judges
-//! lengths itself. The words for page tables are of any number. A ledger is `LEDGER_WORDS`
-//! words, or none.
+//! lengths itself. The words for page tables are of any number.
 #![allow(unsafe_code)]
 
 use crate::memory::Memory;
@@ -25,8 +24,6 @@ unsafe extern "C" {
         memory: *const u64,
         memory_length: usize,
         base: u64,
-        ledger: *mut u64,
-        ledger_length: usize,
         step: u64,
         a: u64,
         b: u64,
@@ -42,8 +39,6 @@ unsafe extern "C" {
         memory: *const u64,
         memory_length: usize,
         base: u64,
-        ledger: *mut u64,
-        ledger_length: usize,
         steps: *const u64,
         steps_length: usize,
         answers: *mut u64,
@@ -79,8 +74,6 @@ unsafe extern "C" {
         hart_length: usize,
         map: *mut u64,
         map_length: usize,
-        ledger: *mut u64,
-        ledger_length: usize,
     ) -> u64;
 
     fn tegrwyllt_convert(
@@ -103,8 +96,6 @@ unsafe extern "C" {
         memory: *const u64,
         memory_length: usize,
         base: u64,
-        ledger: *mut u64,
-        ledger_length: usize,
         scrap: *const u8,
         scrap_length: usize,
         answers: *mut u64,
@@ -121,13 +112,11 @@ pub fn make(grain: u64, hart: &mut [u64], map: &mut [u64]) -> u64 {
     unsafe { tegrwyllt_make(grain, hart.as_mut_ptr(), hart.len(), map.as_mut_ptr(), map.len()) }
 }
 
-/// One step; 1, or 0 where a length, the ledger's word for idle or the step's number is none
-/// there is.
+/// One step; 1, or 0 where a length or the step's number is none there is.
 pub fn step(
     hart: &mut [u64],
     map: &mut [u64],
     memory: Memory,
-    ledger: &mut [u64],
     step: [u64; 3],
     answer: &mut [u64],
 ) -> u64 {
@@ -141,8 +130,6 @@ pub fn step(
             memory.words.as_ptr(),
             memory.words.len(),
             memory.base,
-            ledger.as_mut_ptr(),
-            ledger.len(),
             number,
             a,
             b,
@@ -158,7 +145,6 @@ pub fn run(
     hart: &mut [u64],
     map: &mut [u64],
     memory: Memory,
-    ledger: &mut [u64],
     steps: &[u64],
     answers: &mut [u64],
 ) -> u64 {
@@ -171,8 +157,6 @@ pub fn run(
             memory.words.as_ptr(),
             memory.words.len(),
             memory.base,
-            ledger.as_mut_ptr(),
-            ledger.len(),
             steps.as_ptr(),
             steps.len(),
             answers.as_mut_ptr(),
@@ -210,8 +194,8 @@ pub fn query(hart: &[u64], map: &[u64], question: Question, answer: &mut [u64]) 
     }
 }
 
-/// What the calls on texts and traces give where a form, a length, the word that tells
-/// whether a reader has stopped or that of a ledger for idle is none there is.
+/// What the calls on texts and traces give where a form, a length or the word that tells
+/// whether a reader has stopped is none there is.
 pub const MISFIT: u64 = u64::MAX;
 
 /// Saves a hart in a form; 0, the number of the refusal, or `MISFIT`.
@@ -220,13 +204,7 @@ pub fn save(form: u64, hart: &[u64], text: &mut [u8]) -> u64 {
 }
 
 /// Reads a text of a form back; gives the same.
-pub fn restore(
-    form: u64,
-    text: &[u8],
-    hart: &mut [u64],
-    map: &mut [u64],
-    ledger: &mut [u64],
-) -> u64 {
+pub fn restore(form: u64, text: &[u8], hart: &mut [u64], map: &mut [u64]) -> u64 {
     unsafe {
         tegrwyllt_restore(
             form,
@@ -236,8 +214,6 @@ pub fn restore(
             hart.len(),
             map.as_mut_ptr(),
             map.len(),
-            ledger.as_mut_ptr(),
-            ledger.len(),
         )
     }
 }
@@ -247,16 +223,13 @@ pub fn convert(to: u64, text: &[u8], buffer: &mut [u8]) -> u64 {
     unsafe { tegrwyllt_convert(to, text.as_ptr(), text.len(), buffer.as_mut_ptr(), buffer.len()) }
 }
 
-/// Feeds a scrap of a trace to a reader; the bytes taken, or `MISFIT`. It is lent all that
-/// the product is.
-#[allow(clippy::too_many_arguments)]
+/// Feeds a scrap of a trace to a reader; the bytes taken, or `MISFIT`.
 pub fn feed(
     carried: &mut [u8],
     place: &mut [u64],
     hart: &mut [u64],
     map: &mut [u64],
     memory: Memory,
-    ledger: &mut [u64],
     scrap: &[u8],
     answers: &mut [u64],
 ) -> u64 {
@@ -273,8 +246,6 @@ pub fn feed(
             memory.words.as_ptr(),
             memory.words.len(),
             memory.base,
-            ledger.as_mut_ptr(),
-            ledger.len(),
             scrap.as_ptr(),
             scrap.len(),
             answers.as_mut_ptr(),

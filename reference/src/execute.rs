@@ -35,13 +35,7 @@ pub fn step_judged_by<J: Judge>(
 }
 
 impl Hart {
-    /// The state is one that can be held, or the step a reset.
-    pub(crate) fn execute<J: Judge>(
-        &mut self,
-        map: &mut Map,
-        memory: Memory,
-        step: Step,
-    ) -> Answer {
+    fn execute<J: Judge>(&mut self, map: &mut Map, memory: Memory, step: Step) -> Answer {
         match step {
             Step::Reset => self.restart(map),
             Step::CsrWrite { number, operation, operand } => {

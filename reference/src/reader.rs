@@ -3,11 +3,9 @@
 use crate::answer::{ANSWER_WORDS, Answer, Refusal};
 use crate::execute::step;
 use crate::hart::Hart;
-use crate::ledger::Ledger;
 use crate::map::Map;
 use crate::memory::Memory;
-use crate::metered::{Metered, metered_step};
-use crate::record::{RECORD_LENGTH, read_metered_record, read_record};
+use crate::record::{RECORD_LENGTH, read_record};
 use crate::step::Step;
 
 /// The most bytes that can wait for the rest of their record.
@@ -28,14 +26,14 @@ pub struct Reader {
 
 /// What a record gives once its last byte is there.
 #[derive(Clone, Copy, PartialEq, Eq, Debug)]
-pub enum Reading<S = Step> {
+pub enum Reading {
     /// The step and its answer, a refusal being one like others.
-    Stepped(S, Answer),
+    Stepped(Step, Answer),
     /// The record of this number is broken.
     Broken(u64),
 }
 
-impl<S> Reading<S> {
+impl Reading {
     pub fn words(self) -> [u64; ANSWER_WORDS] {
         match self {
             Reading::Stepped(_, answer) => answer.words(),
@@ -97,7 +95,18 @@ impl Reader {
         memory: Memory,
         byte: u8,
     ) -> Option<Reading> {
-        self.take_by(&mut Plain { hart, map, memory }, byte)
+        if self.stopped {
+            return None;
+        }
+        if self.count < MOST_CARRIED {
+            self.carried[self.count] = byte;
+            self.count += 1;
+            return None;
+        }
+        let mut record = [byte; RECORD_LENGTH];
+        record[..MOST_CARRIED].copy_from_slice(&self.carried);
+        (self.carried, self.count) = ([0; MOST_CARRIED], 0);
+        Some(self.take_record(hart, map, memory, &record))
     }
 
     /// Takes a whole record, where none is begun and the reader has not stopped.
@@ -108,19 +117,13 @@ impl Reader {
         memory: Memory,
         record: &[u8; RECORD_LENGTH],
     ) -> Reading {
-        self.take_record_by(&mut Plain { hart, map, memory }, record)
-    }
-
-    /// The same with a ledger lent.
-    pub fn take_metered_record(
-        &mut self,
-        hart: &mut Hart,
-        map: &mut Map,
-        memory: Memory,
-        ledger: &mut Ledger,
-        record: &[u8; RECORD_LENGTH],
-    ) -> Reading<Metered> {
-        self.take_record_by(&mut WithLedger { hart, map, memory, ledger }, record)
+        debug_assert!(self.count == 0 && !self.stopped);
+        let Some(next) = read_record(record) else {
+            self.stopped = true;
+            return Reading::Broken(self.number);
+        };
+        self.number = self.number.wrapping_add(1);
+        Reading::Stepped(next, step(hart, map, memory, next))
     }
 
     /// Takes the bytes of a scrap up to the first whose answer has no room. Gives how many
@@ -133,111 +136,16 @@ impl Reader {
         scrap: &[u8],
         answers: &mut [[u64; ANSWER_WORDS]],
     ) -> (usize, usize) {
-        self.feed_by(&mut Plain { hart, map, memory }, scrap, answers)
-    }
-
-    /// The same with a ledger lent.
-    pub fn feed_metered(
-        &mut self,
-        hart: &mut Hart,
-        map: &mut Map,
-        memory: Memory,
-        ledger: &mut Ledger,
-        scrap: &[u8],
-        answers: &mut [[u64; ANSWER_WORDS]],
-    ) -> (usize, usize) {
-        self.feed_by(&mut WithLedger { hart, map, memory, ledger }, scrap, answers)
-    }
-
-    fn take_by<L: Lent>(&mut self, lent: &mut L, byte: u8) -> Option<Reading<L::Step>> {
-        if self.stopped {
-            return None;
-        }
-        if self.count < MOST_CARRIED {
-            self.carried[self.count] = byte;
-            self.count += 1;
-            return None;
-        }
-        let mut record = [byte; RECORD_LENGTH];
-        record[..MOST_CARRIED].copy_from_slice(&self.carried);
-        (self.carried, self.count) = ([0; MOST_CARRIED], 0);
-        Some(self.take_record_by(lent, &record))
-    }
-
-    fn take_record_by<L: Lent>(
-        &mut self,
-        lent: &mut L,
-        record: &[u8; RECORD_LENGTH],
-    ) -> Reading<L::Step> {
-        debug_assert!(self.count == 0 && !self.stopped);
-        let Some(next) = L::read(record) else {
-            self.stopped = true;
-            return Reading::Broken(self.number);
-        };
-        self.number = self.number.wrapping_add(1);
-        Reading::Stepped(next, lent.step(next))
-    }
-
-    fn feed_by<L: Lent>(
-        &mut self,
-        lent: &mut L,
-        scrap: &[u8],
-        answers: &mut [[u64; ANSWER_WORDS]],
-    ) -> (usize, usize) {
         let mut written = 0;
         for (place, &byte) in scrap.iter().enumerate() {
             if self.awaits_last() && written == answers.len() {
                 return (place, written);
             }
-            if let Some(reading) = self.take_by(lent, byte) {
+            if let Some(reading) = self.take(hart, map, memory, byte) {
                 answers[written] = reading.words();
                 written += 1;
             }
         }
         (scrap.len(), written)
-    }
-}
-
-/// What is lent to the steps of a trace: it tells which steps there are.
-trait Lent {
-    type Step: Copy;
-    fn read(record: &[u8; RECORD_LENGTH]) -> Option<Self::Step>;
-    fn step(&mut self, next: Self::Step) -> Answer;
-}
-
-struct Plain<'a> {
-    hart: &'a mut Hart,
-    map: &'a mut Map,
-    memory: Memory<'a>,
-}
-
-impl Lent for Plain<'_> {
-    type Step = Step;
-
-    fn read(record: &[u8; RECORD_LENGTH]) -> Option<Step> {
-        read_record(record)
-    }
-
-    fn step(&mut self, next: Step) -> Answer {
-        step(self.hart, self.map, self.memory, next)
-    }
-}
-
-struct WithLedger<'a> {
-    hart: &'a mut Hart,
-    map: &'a mut Map,
-    memory: Memory<'a>,
-    ledger: &'a mut Ledger,
-}
-
-impl Lent for WithLedger<'_> {
-    type Step = Metered;
-
-    fn read(record: &[u8; RECORD_LENGTH]) -> Option<Metered> {
-        read_metered_record(record)
-    }
-
-    fn step(&mut self, next: Metered) -> Answer {
-        metered_step(self.hart, self.map, self.memory, self.ledger, next)
     }
 }

@@ -1,8 +1,7 @@
 //! Records of a trace: one step each, in three lines.
 
 use crate::hexadecimal::{put_line, take_line};
-use crate::metered::Metered;
-use crate::step::{STEP_WORDS, Step};
+use crate::step::Step;
 
 /// Number of bytes of a record.
 pub const RECORD_LENGTH: usize = 60;
@@ -10,21 +9,11 @@ pub const RECORD_LENGTH: usize = 60;
 /// The step of a record, or nothing where the record is broken: a line not in
 /// its form, no step of this number, or an argument the step does not use.
 pub fn read_record(record: &[u8; RECORD_LENGTH]) -> Option<Step> {
-    let words = read_words(record)?;
+    let mut text = &record[..];
+    let words =
+        [take_line(&mut text, "step")?, take_line(&mut text, "a")?, take_line(&mut text, "b")?];
     let step = Step::from_words(words[0], words[1], words[2])?;
     (step.to_words() == words).then_some(step)
-}
-
-/// The same where a ledger is lent: step 18 uses both arguments.
-pub fn read_metered_record(record: &[u8; RECORD_LENGTH]) -> Option<Metered> {
-    let words = read_words(record)?;
-    let step = Metered::from_words(words[0], words[1], words[2])?;
-    (step.to_words() == words).then_some(step)
-}
-
-fn read_words(record: &[u8; RECORD_LENGTH]) -> Option<[u64; STEP_WORDS]> {
-    let mut text = &record[..];
-    Some([take_line(&mut text, "step")?, take_line(&mut text, "a")?, take_line(&mut text, "b")?])
 }
 
 /// The form alone, with any words whatever.

@@ -78,7 +78,7 @@ pub fn fill(input: &mut impl Read, buffer: &mut [u8]) -> io::Result<usize> {
 }
 
 /// The text of a state that can be held: of the first form that has one.
-pub(crate) fn write_state(output: &mut impl Write, hart: &Hart) -> io::Result<()> {
+fn write_state(output: &mut impl Write, hart: &Hart) -> io::Result<()> {
     let mut text = [0; Form::LONGEST];
     let saved = Form::ALL.into_iter().find(|&form| save(form, hart, &mut text).is_ok());
     let form = saved.expect("the second form has room for every state");

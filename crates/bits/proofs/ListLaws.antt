@@ -34,10 +34,10 @@ module _ (test : ℕ → Bool) where
 
 -- ---- the loop: what was found of the first i elements, with the rest, is what holds of all
 module _ (test : ℕ → Bool) (xs : List ℕ) where
-  pub all-next : (i : ℕ) (found : Bool) → i < length xs → (found && all test (drop i xs)) ≡ all test xs
+  pub all_next : (i : ℕ) (found : Bool) → i < length xs → (found && all test (drop i xs)) ≡ all test xs
       → (found && test (get_or xs i 0) && all test (drop (i + 1) xs)) ≡ all test xs
   unfolding all
-  all-next i found h e = and_assoc found (test (get_or xs i 0)) (all test (drop (i + 1) xs)) ∙ rw (← e, add-one, drop-cons xs i 0)
+  all_next i found h e = and_assoc found (test (get_or xs i 0)) (all test (drop (i + 1) xs)) ∙ rw (← e, add-one, drop-cons xs i 0)
 
   pub all_end : (i : ℕ) (found : Bool) → length xs ≤ i → (found && all test (drop i xs)) ≡ all test xs → found ≡ all test xs
   unfolding all

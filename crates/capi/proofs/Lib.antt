@@ -3,6 +3,5 @@ pub mod MapLaws
 pub mod CallLaws
 pub mod QueryLaws
 pub mod MakeLaws
-pub mod LedgerLaws
 pub mod SaveLaws
 pub mod FeedLaws

@@ -1,7 +1,7 @@
 -- Saving, reading back and converting on words. Assumes nothing.
 use Prim.Native.Nat.{ℕ}
 use mathlib.Core.Path.{◌≡◌, refl, sym, ap, ◌∙◌}
-use mathlib.Core.Bool.{Bool, true, false, cond, ◌&&◌}
+use mathlib.Core.Bool.{Bool, true, false, cond}
 use mathlib.Core.List.{List}
 use native.Mathlib.Omega.{arith}
 use lib.Dec.{eqb}
@@ -10,14 +10,13 @@ use borrow.Author.Tests.{eqb-true}
 use Rattle.bits.specs.Lists.{Words}
 use Rattle.bits.proofs.Conjunction.{both}
 use Rattle.steps.specs.declared.Answer.{Answer}
-use Rattle.steps.specs.declared.Answer.TheVariants.{Done, Refused}
+use Rattle.steps.specs.declared.Answer.TheVariants.{Refused}
 use Rattle.steps.specs.Number.{refusal_of}
 use Rattle.state.specs.declared.State.{State}
 use Rattle.state.specs.Words.{words_of}
 use Rattle.state.specs.Slices.{loaded}
 use Rattle.state.proofs.Back.{words_back}
 use Rattle.state.proofs.SliceLaws.{all-loaded}
-use Rattle.ledger.specs.Words.{ledger_of, stored_in, lent_by, words_left}
 use Rattle.map.specs.declared.Map.{Map}
 use Rattle.map.specs.MapWords.{map_of_words, map_words}
 use Rattle.map.proofs.MapWords.{map-words-back}
@@ -27,10 +26,8 @@ use Rattle.hart.specs.declared.Hart.{Hart}
 use Rattle.hart.specs.declared.Stepped.{Stepped}
 use Rattle.hart.specs.Steps.{hart_with, handed_back}
 use Rattle.hart.specs.Saved.{saved_answer, saved_buffer, text_holds, state_in, restored_done, restored, converted_answer, converted_buffer}
-use Rattle.hart.specs.Metering.{restored_ledger}
-use Rattle.capi.specs.Calls.{hart_of, fits, fits_ledger, misfit, is_form, form_of, saveable, save_result, saved_text, read_back, restorable, restore_result, restored_hart, restored_map, restored_by, ledger_restored, convert_result, converted_text}
+use Rattle.capi.specs.Calls.{hart_of, fits, misfit, is_form, form_of, saveable, save_result, saved_text, read_back, restorable, restore_result, restored_hart, restored_map, convert_result, converted_text}
 use Rattle.capi.proofs.CallLaws.{fitting}
-use Rattle.capi.proofs.LedgerLaws.{kept_words, posted-words}
 
 -- ---- saving
 
@@ -106,51 +103,17 @@ module _ (form : Form) (g h : Hart) (m n : Map) (text : List ℕ) where
       go true false e = (refl, refl)
       go false b e = (refl, refl)
 
-  -- where there is none, a text that was read answers so
-  done-answer : refusal_of (restored form h n text).answer ≡ 0 → (restored form h n text).answer ≡ Done
-  unfolding restored
-  done-answer = go (read_text form text).ok (text_holds form (state_in form text))
-    where
-      go : (a b : Bool) → refusal_of (read h n (state_in form text) a b).answer ≡ 0 → (read h n (state_in form text) a b).answer ≡ Done
-      go true true e = refl
-      go true false e = absurd (omega (arith, e))
-      go false b e = absurd (omega (arith, e))
+-- what the call gives back, and leaves as hart and as map
+abbrev Restored : ℕ → List ℕ → List ℕ → List ℕ → ℕ → List ℕ → List ℕ → Type 0
+Restored form text hart map result h m =
+    (result ≡ restore_result form text hart map) × ((h ≡ restored_hart form text hart map) × (m ≡ restored_map form text hart map))
 
-  -- .. and the ledger
-  words-refused : (w : List ℕ) → (refusal_of (restored form h n text).answer ≡ 0 → ⊥) → w ≡ words_left w (restored_by (lent_by w) (restored form h n text).answer)
-  unfolding restored
-  words-refused w = go (read_text form text).ok (text_holds form (state_in form text))
-    where
-      go : (a b : Bool) → (refusal_of (read h n (state_in form text) a b).answer ≡ 0 → ⊥)
-          → w ≡ words_left w (restored_by (lent_by w) (read h n (state_in form text) a b).answer)
-      go true true e = absurd (e refl)
-      go true false e = kept_words w 5
-      go false b e = kept_words w 4
+module _ (form : ℕ) (text hart map : List ℕ) where
+  pub not-restored : restorable form hart map ≡ false → Restored form text hart map misfit hart map
+  unfolding restore_result restored_hart restored_map
+  not-restored e = (rw e, (rw e, rw e))
 
--- what the call gives back, and leaves as hart, map and ledger
-abbrev Restored : ℕ → List ℕ → List ℕ → List ℕ → List ℕ → ℕ → List ℕ → List ℕ → List ℕ → Type 0
-Restored form text hart map ledger result h m l =
-    (result ≡ restore_result form text hart map ledger)
-    × ((h ≡ restored_hart form text hart map ledger) × ((m ≡ restored_map form text hart map ledger) × (l ≡ ledger_restored form text hart map ledger)))
-
--- what the tests say
-pub record Restorable (form : ℕ) (hart map ledger : List ℕ) : Type 0 where
-  pub hart-fits : length hart ≡ 43
-  pub map-fits : length map ≡ 100
-  pub ledger-fits : fits_ledger ledger ≡ true
-
-pub restoring : (form : ℕ) (hart map ledger : List ℕ) → restorable form hart map ledger ≡ true → Restorable form hart map ledger
-restoring form hart map ledger t =
-    let p = both (fits hart map) (fits_ledger ledger) (both (is_form form) (fits hart map && fits_ledger ledger) t).1 in
-    let f = fitting hart map p.0 in
-    record { hart-fits = f.0; map-fits = f.1; ledger-fits = p.1 }
-
-module _ (form : ℕ) (text hart map ledger : List ℕ) where
-  pub not-restored : restorable form hart map ledger ≡ false → Restored form text hart map ledger misfit hart map ledger
-  unfolding restore_result restored_hart restored_map ledger_restored
-  not-restored e = (rw e, (rw e, (rw e, rw e)))
-
-  module _ (t : restorable form hart map ledger ≡ true) (words : Words 43 hart) {f : Form} (ef : f ≡ form_of form) (g : Hart) (empty : Map) {s : Stepped}
+  module _ (t : restorable form hart map ≡ true) (words : Words 43 hart) {f : Form} (ef : f ≡ form_of form) (g : Hart) (empty : Map) {s : Stepped}
       (e : s ≡ restored f g empty text) {r : ℕ} (d : r ≡ refusal_of s.answer) where
     named : s ≡ restored (form_of form) g empty text
     named = e ∙ ap (λ (x : Form). restored x g empty text) ef
@@ -161,34 +124,25 @@ module _ (form : ℕ) (text hart map ledger : List ℕ) where
     number : r ≡ refusal_of (read_back form text hart map).answer
     number = given-number ∙ ap refusal_of (read_answer (form_of form) g (hart_of hart) empty (map_of_words map) text)
 
-    pub restore-refused : (r ≡ 0 → ⊥) → Restored form text hart map ledger r hart map ledger
-    unfolding restore_result restored_hart restored_map ledger_restored
+    pub restore-refused : (r ≡ 0 → ⊥) → Restored form text hart map r hart map
+    unfolding restore_result restored_hart restored_map
     restore-refused n =
         let k = read-refused (form_of form) g (hart_of hart) empty (map_of_words map) text (λ z. n (given-number ∙ z)) in
-        let l = (restoring form hart map ledger t).map-fits in (
+        let l = (fitting hart map (both (is_form form) (fits hart map) t).1).1 in (
           rw t number,
           (
             rw t (sym (words_back hart words) ∙ ap (λ (x : Hart). words_of x.state) (sym k.0)),
-            (
-              rw t (sym (map-words-back map l) ∙ ap map_words (sym k.1)),
-              rw t (words-refused (form_of form) g (hart_of hart) empty (map_of_words map) text ledger (λ z. n (number ∙ z))),
-            ),
+            rw t (sym (map-words-back map l) ∙ ap map_words (sym k.1)),
           ),
         )
 
-    pub restore-done : r ≡ 0 → {h m l : List ℕ} → h ≡ words_of s.hart.state → m ≡ map_words s.map
-        → l ≡ stored_in (restored_ledger (ledger_of ledger) Done) ledger → Restored form text hart map ledger 0 h m l
-    unfolding restore_result restored_hart restored_map ledger_restored
-    restore-done z p q k =
-        let d : s ≡ read_back form text hart map = named ∙ read_done (form_of form) g (hart_of hart) empty (map_of_words map) text (sym given-number ∙ z) in
-        let done = done-answer (form_of form) g (hart_of hart) empty (map_of_words map) text (sym number ∙ z) in (
+    pub restore-done : r ≡ 0 → {h m : List ℕ} → h ≡ words_of s.hart.state → m ≡ map_words s.map → Restored form text hart map 0 h m
+    unfolding restore_result restored_hart restored_map
+    restore-done z p q =
+        let d : s ≡ read_back form text hart map = named ∙ read_done (form_of form) g (hart_of hart) empty (map_of_words map) text (sym given-number ∙ z) in (
           rw t (sym z ∙ number),
           (
             rw t (p ∙ ap (λ (x : Stepped). words_of x.hart.state) d),
-            (
-              rw t (q ∙ ap (λ (x : Stepped). map_words x.map) d),
-              rw t (k ∙ posted-words ledger (restoring form hart map ledger t).ledger-fits
-                  ∙ ap (λ (a : Answer). words_left ledger (restored_by (lent_by ledger) a)) (sym done)),
-            ),
+            rw t (q ∙ ap (λ (x : Stepped). map_words x.map) d),
           ),
         )

@@ -1,21 +1,16 @@
 -- The calls of the C interface: what each gives back, and what it leaves in the slices that it is lent, from what was in them.
 use Rattle.std.specs.Prelude.{ℕ, ◌*◌, ◌-◌, ◌^◌, Bool, cond, ◌&&◌, ◌||◌, List, [], ◌∷◌, eqb, leb, length}
-use Rattle.std.proofs.Math.Option.{Option, some, none}
 use Rattle.std.proofs.lemmas.List.Edits.{sets}
 use Rattle.pmp.specs.declared.Access.{Access}
 use Rattle.pmp.specs.declared.Access.TheVariants.{Fetch, Load, Store}
 use Rattle.pmp.specs.Number.{is_mode, mode_of}
-use Rattle.steps.specs.declared.Answer.{Answer}
 use Rattle.steps.specs.Number.{decision_numbers, refusal_of}
-use Rattle.steps.specs.Decode.{name_steps}
+use Rattle.steps.specs.Decode.{steps_of, name_steps}
 use Rattle.paging.specs.Memory.{Memory}
 use Rattle.state.specs.Words.{words_of, state_of}
 use Rattle.map.specs.declared.Map.{Map}
 use Rattle.map.specs.MapWords.{map_of_words, map_words}
-use Rattle.ledger.specs.declared.Ledger.{Ledger}
-use Rattle.ledger.specs.Words.{is_ledger, lent_by, words_left}
-use Rattle.ledger.specs.Given.{last_step}
-use Rattle.engine.specs.Runs.{Lent, lent_of, ledger_left}
+use Rattle.engine.specs.Runs.{Lent, lent}
 use Rattle.text.specs.declared.Form.{Form}
 use Rattle.text.specs.declared.Form.TheVariants.{First, Second}
 use Rattle.hart.specs.declared.Hart.{Hart}
@@ -24,7 +19,6 @@ use Rattle.hart.specs.Steps.{hart_with, reset_mapped}
 use Rattle.hart.specs.Runs.{left_by, answers_by}
 use Rattle.hart.specs.Queries.{query_answer}
 use Rattle.hart.specs.Saved.{saved_answer, saved_buffer, restored, converted_answer, converted_buffer}
-use Rattle.hart.specs.Metering.{restored_ledger}
 
 -- the hart of 43 words: those of the first form's lines in their order, satp and the grain
 abbrev pub hart_of : List ℕ → Hart
@@ -33,10 +27,6 @@ hart_of words = hart_with (state_of words)
 -- a hart's slice has 43 words and a map's 100
 abbrev pub fits : List ℕ → List ℕ → Bool
 fits hart map = eqb (length hart) 43 && eqb (length map) 100
-
--- a ledger's slice has twelve words, of which the last is 0 or 1; with no words none is lent
-abbrev pub fits_ledger : List ℕ → Bool
-fits_ledger ledger = eqb (length ledger) 0 || is_ledger ledger
 
 -- ---- making a hart
 
@@ -57,21 +47,19 @@ pub record Left : Type 0 where
   pub result : ℕ
   pub hart : List ℕ
   pub map : List ℕ
-  pub ledger : List ℕ
   pub answers : List ℕ
 
 -- 0, and nothing is changed
-abbrev pub unchanged : List ℕ → List ℕ → List ℕ → List ℕ → Left
-unchanged hart map ledger answers = record { result = 0; hart = hart; map = map; ledger = ledger; answers = answers }
+abbrev pub unchanged : List ℕ → List ℕ → List ℕ → Left
+unchanged hart map answers = record { result = 0; hart = hart; map = map; answers = answers }
 
--- the hart and the map that the steps leave, the words of the ledger left, and the answers, written over what the slice held
-abbrev pub left : Hart → Map → List Lent → List ℕ → List ℕ → Left
-left h map steps ledger answers =
+-- the hart and the map that the steps leave, and their answers, written over what the slice held
+abbrev pub left : Hart → Map → List Lent → List ℕ → Left
+left h map steps answers =
     record {
       result = 1;
       hart = words_of (left_by h map steps).hart.state;
       map = map_words (left_by h map steps).map;
-      ledger = ledger;
       answers = sets answers 0 (answers_by h map steps);
     }
 
@@ -79,17 +67,16 @@ left h map steps ledger answers =
 abbrev pub answers_fit : List ℕ → List ℕ → Bool
 answers_fit steps answers = eqb (3 * length answers) (4 * length steps)
 
--- many steps: the first word of each names it, 0 to 17, or 18 with a ledger. One memory is lent to all, and the ledger goes from one to the next
-unfoldable pub run_call : List ℕ → List ℕ → Memory → List ℕ → List ℕ → List ℕ → Left
-run_call hart map m ledger steps answers =
-    cond (fits hart map && (fits_ledger ledger && (answers_fit steps answers && name_steps (last_step (lent_by ledger)) steps)))
-    (left (hart_of hart) (map_of_words map) (lent_of m (state_of hart) (lent_by ledger) steps)
-    (words_left ledger (ledger_left m (state_of hart) (lent_by ledger) steps)) answers)
-    (unchanged hart map ledger answers)
+-- many steps: the first word of each names it. One memory is lent to all
+unfoldable pub run_call : List ℕ → List ℕ → Memory → List ℕ → List ℕ → Left
+run_call hart map m steps answers =
+    cond (fits hart map && (answers_fit steps answers && name_steps steps))
+    (left (hart_of hart) (map_of_words map) (lent m (steps_of steps)) answers)
+    (unchanged hart map answers)
 
 -- one step
-abbrev pub step_call : List ℕ → List ℕ → Memory → List ℕ → ℕ → ℕ → ℕ → List ℕ → Left
-step_call hart map m ledger step a b answer = run_call hart map m ledger (step ∷ a ∷ b ∷ []) answer
+abbrev pub step_call : List ℕ → List ℕ → Memory → ℕ → ℕ → ℕ → List ℕ → Left
+step_call hart map m step a b answer = run_call hart map m (step ∷ a ∷ b ∷ []) answer
 
 -- ---- the access query
 
@@ -112,7 +99,7 @@ query_answered hart map mode kind address size answer =
 
 -- ---- the saved text
 
--- what a call gives where a length is another, or a ledger's idle word, or the form: no refusal has this number
+-- what a call gives where the hart or the map has another length, or the form is another: no refusal has this number
 abbrev pub misfit : ℕ
 misfit = 2 ^ 64 - 1
 
@@ -138,26 +125,17 @@ abbrev pub read_back : ℕ → List ℕ → List ℕ → List ℕ → Stepped
 read_back form text hart map = restored (form_of form) (hart_of hart) (map_of_words map) text
 
 -- 0, or refusal 4, then 5
-abbrev pub restorable : ℕ → List ℕ → List ℕ → List ℕ → Bool
-restorable form hart map ledger = is_form form && (fits hart map && fits_ledger ledger)
+abbrev pub restorable : ℕ → List ℕ → List ℕ → Bool
+restorable form hart map = is_form form && fits hart map
 
-unfoldable pub restore_result : ℕ → List ℕ → List ℕ → List ℕ → List ℕ → ℕ
-restore_result form text hart map ledger = cond (restorable form hart map ledger) (refusal_of (read_back form text hart map).answer) misfit
+unfoldable pub restore_result : ℕ → List ℕ → List ℕ → List ℕ → ℕ
+restore_result form text hart map = cond (restorable form hart map) (refusal_of (read_back form text hart map).answer) misfit
 
-unfoldable pub restored_hart : ℕ → List ℕ → List ℕ → List ℕ → List ℕ → List ℕ
-restored_hart form text hart map ledger = cond (restorable form hart map ledger) (words_of (read_back form text hart map).hart.state) hart
+unfoldable pub restored_hart : ℕ → List ℕ → List ℕ → List ℕ → List ℕ
+restored_hart form text hart map = cond (restorable form hart map) (words_of (read_back form text hart map).hart.state) hart
 
-unfoldable pub restored_map : ℕ → List ℕ → List ℕ → List ℕ → List ℕ → List ℕ
-restored_map form text hart map ledger = cond (restorable form hart map ledger) (map_words (read_back form text hart map).map) map
-
--- 02, [4]: the ledger that is lent, if one is, by the answer to the reading
-abbrev pub restored_by : Option Ledger → Answer → Option Ledger
-restored_by none answer = none
-restored_by (some l) answer = some (restored_ledger l answer)
-
-unfoldable pub ledger_restored : ℕ → List ℕ → List ℕ → List ℕ → List ℕ → List ℕ
-ledger_restored form text hart map ledger =
-    cond (restorable form hart map ledger) (words_left ledger (restored_by (lent_by ledger) (read_back form text hart map).answer)) ledger
+unfoldable pub restored_map : ℕ → List ℕ → List ℕ → List ℕ → List ℕ
+restored_map form text hart map = cond (restorable form hart map) (map_words (read_back form text hart map).map) map
 
 -- 0, or refusal 4, then 5, 6 and 12
 unfoldable pub convert_result : ℕ → List ℕ → List ℕ → ℕ

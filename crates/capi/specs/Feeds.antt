@@ -2,12 +2,11 @@
 use Rattle.std.specs.Prelude.{ℕ, ◌/◌, ◌%◌, Bool, false, cond, not, ◌&&◌, List, [], ◌∷◌, eqb, leb, length, get_or}
 use Rattle.paging.specs.Memory.{Memory}
 use Rattle.state.specs.Words.{words_of}
-use Rattle.ledger.specs.Words.{lent_by, words_left}
 use Rattle.map.specs.MapWords.{map_of_words, map_words}
 use Rattle.trace.specs.declared.Reader.{Reader}
 use Rattle.trace.specs.declared.Fed.{Fed}
-use Rattle.trace.specs.Feeding.{left_count, fed, fed_ledger, feed_words}
-use Rattle.capi.specs.Calls.{hart_of, fits, fits_ledger, misfit}
+use Rattle.trace.specs.Feeding.{left_count, fed, feed_words}
+use Rattle.capi.specs.Calls.{hart_of, fits, misfit}
 
 -- a place is four words: the carried count, the next record's number, whether refusal 8 has come (0 or 1), and the answers written, which are not read
 unfoldable pub is_place : List ℕ → Bool
@@ -24,9 +23,8 @@ abbrev pub place_of : Reader → ℕ → List ℕ
 place_of r answered = r.count ∷ r.number ∷ cond r.stopped 1 0 ∷ answered ∷ []
 
 -- the slices fit: 59 bytes are carried, and an answer has four words
-abbrev pub feedable : List ℕ → List ℕ → List ℕ → List ℕ → List ℕ → List ℕ → Bool
-feedable carried place hart map ledger answers =
-    fits hart map && (fits_ledger ledger && (eqb (length carried) 59 && (is_place place && eqb (length answers % 4) 0)))
+abbrev pub feedable : List ℕ → List ℕ → List ℕ → List ℕ → List ℕ → Bool
+feedable carried place hart map answers = fits hart map && (eqb (length carried) 59 && (is_place place && eqb (length answers % 4) 0))
 
 -- what a feed leaves
 pub record FeedLeft : Type 0 where
@@ -35,28 +33,25 @@ pub record FeedLeft : Type 0 where
   pub place : List ℕ
   pub hart : List ℕ
   pub map : List ℕ
-  pub ledger : List ℕ
   pub answers : List ℕ
 
-abbrev pub left_by_feed : Fed → List ℕ → List ℕ → FeedLeft
-left_by_feed f ledger answers = record {
+abbrev pub left_by_feed : Fed → List ℕ → FeedLeft
+left_by_feed f answers = record {
   result = f.taken;
   carried = f.reader.carried;
   place = place_of f.reader f.answered;
   hart = words_of f.hart.state;
   map = map_words f.map;
-  ledger = ledger;
   answers = answers;
 }
 
 -- the bytes taken; or 2^64-1, and nothing is changed
-unfoldable pub feed_call : List ℕ → List ℕ → List ℕ → List ℕ → Memory → List ℕ → List ℕ → List ℕ → FeedLeft
-feed_call carried place hart map m ledger scrap answers =
-    cond (feedable carried place hart map ledger answers)
-    (left_by_feed (fed m (reader_in carried place) (hart_of hart) (map_of_words map) (lent_by ledger) (length answers / 4) scrap)
-    (words_left ledger (fed_ledger m (reader_in carried place) (hart_of hart) (map_of_words map) (lent_by ledger) (length answers / 4) scrap))
-    (feed_words m (reader_in carried place) (hart_of hart) (map_of_words map) (lent_by ledger) scrap answers))
-    (record { result = misfit; carried = carried; place = place; hart = hart; map = map; ledger = ledger; answers = answers })
+unfoldable pub feed_call : List ℕ → List ℕ → List ℕ → List ℕ → Memory → List ℕ → List ℕ → FeedLeft
+feed_call carried place hart map m scrap answers =
+    cond (feedable carried place hart map answers)
+    (left_by_feed (fed m (reader_in carried place) (hart_of hart) (map_of_words map) (length answers / 4) scrap)
+    (feed_words m (reader_in carried place) (hart_of hart) (map_of_words map) scrap answers))
+    (record { result = misfit; carried = carried; place = place; hart = hart; map = map; answers = answers })
 
 -- how many bytes are short of a record; 0 after refusal 8; 2^64-1 for another length
 unfoldable pub left_call : List ℕ → ℕ

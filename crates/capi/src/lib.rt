@@ -1,7 +1,6 @@
-// The interface for C: harts, maps, steps and answers as 43, 100, three and four words, and ledgers as twelve, or none where no ledger is lent. A call whose slices
-// have another length changes nothing. A memory of page tables is words that stand at a physical address; it may have any length.
+// The interface for C: harts, maps, steps and answers as 43, 100, three and four words. A call whose slices have another length changes nothing. A memory
+// of page tables is words that stand at a physical address; it may have any length.
 mod feeding;
-mod ledgers;
 mod maps;
 mod query;
 
@@ -12,7 +11,7 @@ ghost use Rattle.state.specs.Words.{words_of};
 ghost use Rattle.map.specs.MapWords.{map_words};
 ghost use Rattle.capi.specs.Calls.{make_result, made_hart, made_map, step_call, run_call, query_result, query_answered, is_form, form_of, save_result, saved_text};
 ghost use Rattle.capi.specs.Feeds.{feed_call, left_call};
-ghost use Rattle.capi.specs.Calls.{restore_result, restored_hart, restored_map, ledger_restored, convert_result, converted_text};
+ghost use Rattle.capi.specs.Calls.{restore_result, restored_hart, restored_map, convert_result, converted_text};
 
 use hart::Hart;
 use map::{Map, Range};
@@ -59,59 +58,53 @@ pub extern "C" fn tegrwyllt_make(grain: u64, hart: &mut [u64], map: &mut [u64]) 
     1
 }
 
-// One step: its number, 0 to 17, or 18 with a ledger, and its arguments. 1, or 0 where a length, a ledger's idle word or the number is another.
+// One step: its number, 0 to 17, and its arguments. 1, or 0 where a length or the number is another.
 #[unsafe(no_mangle)]
 pub extern "C" fn tegrwyllt_step(
     hart: &mut [u64],
     map: &mut [u64],
     memory: &[u64],
     base: u64,
-    ledger: &mut [u64],
     step: u64,
     a: u64,
     b: u64,
     answer: &mut [u64],
 ) -> u64
-    ensures value { result ≡ (step_call hart.old map.old (memory_at memory.now base) ledger.old step a b answer.old).result }
-    ensures hart_after { hart.new ≡ (step_call hart.old map.old (memory_at memory.now base) ledger.old step a b answer.old).hart }
-    ensures map_after { map.new ≡ (step_call hart.old map.old (memory_at memory.now base) ledger.old step a b answer.old).map }
-    ensures ledger_after { ledger.new ≡ (step_call hart.old map.old (memory_at memory.now base) ledger.old step a b answer.old).ledger }
-    ensures answer_after { answer.new ≡ (step_call hart.old map.old (memory_at memory.now base) ledger.old step a b answer.old).answers }
+    ensures value { result ≡ (step_call hart.old map.old (memory_at memory.now base) step a b answer.old).result }
+    ensures hart_after { hart.new ≡ (step_call hart.old map.old (memory_at memory.now base) step a b answer.old).hart }
+    ensures map_after { map.new ≡ (step_call hart.old map.old (memory_at memory.now base) step a b answer.old).map }
+    ensures answer_after { answer.new ≡ (step_call hart.old map.old (memory_at memory.now base) step a b answer.old).answers }
 {
     // Told at once. Behind a test the arguments on the stack are read one by one; together, as pairs, they would be waited for.
-    if 18 < step {
+    if 17 < step {
         return 0;
     }
     let numbers = [step, a, b];
-    tegrwyllt_run(hart, map, memory, base, ledger, &numbers, answer)
+    tegrwyllt_run(hart, map, memory, base, &numbers, answer)
 }
 
-// Steps in order, each given what the one before left: three words for each step, and four for its answer. 1, or 0 where a length, a ledger's idle word or a step's
-// number is another.
+// Steps in order, each given what the one before left: three words for each step, and four for its answer. 1, or 0 where a length or a step's number is
+// another.
 #[unsafe(no_mangle)]
 pub extern "C" fn tegrwyllt_run(
     hart: &mut [u64],
     map: &mut [u64],
     memory: &[u64],
     base: u64,
-    ledger: &mut [u64],
     steps: &[u64],
     answers: &mut [u64],
 ) -> u64
-    ensures value { result ≡ (run_call hart.old map.old (memory_at memory.now base) ledger.old steps.now answers.old).result }
-    ensures hart_after { hart.new ≡ (run_call hart.old map.old (memory_at memory.now base) ledger.old steps.now answers.old).hart }
-    ensures map_after { map.new ≡ (run_call hart.old map.old (memory_at memory.now base) ledger.old steps.now answers.old).map }
-    ensures ledger_after { ledger.new ≡ (run_call hart.old map.old (memory_at memory.now base) ledger.old steps.now answers.old).ledger }
-    ensures answers_after { answers.new ≡ (run_call hart.old map.old (memory_at memory.now base) ledger.old steps.now answers.old).answers }
+    ensures value { result ≡ (run_call hart.old map.old (memory_at memory.now base) steps.now answers.old).result }
+    ensures hart_after { hart.new ≡ (run_call hart.old map.old (memory_at memory.now base) steps.now answers.old).hart }
+    ensures map_after { map.new ≡ (run_call hart.old map.old (memory_at memory.now base) steps.now answers.old).map }
+    ensures answers_after { answers.new ≡ (run_call hart.old map.old (memory_at memory.now base) steps.now answers.old).answers }
 {
     if !(fit(hart.len(), map.len())
-        & (ledgers::fits_ledger(ledger)
-            & ((3 * answers.len() == 4 * steps.len())
-                & steps::name_steps(engine::last_step(ledger), steps))))
+        & ((3 * answers.len() == 4 * steps.len()) & steps::name_steps(steps)))
     {
         return 0;
     }
-    let remap = engine::run(hart, memory, base, ledger, steps, answers);
+    let remap = engine::run(hart, memory, base, steps, answers);
     maps::renew(remap, hart, map);
     1
 }
@@ -139,7 +132,7 @@ pub extern "C" fn tegrwyllt_query(
     1
 }
 
-// What a call gives where a length is another, or a ledger's idle word, or the form: no refusal has this number.
+// What a call gives where the hart or the map has another length, or the form is another: no refusal has this number.
 const MISFIT: u64 = 0xFFFFFFFFFFFFFFFF;
 
 fn is_form(form: u64) -> bool
@@ -169,22 +162,20 @@ pub extern "C" fn tegrwyllt_save(form: u64, hart: &[u64], text: &mut [u8]) -> u6
     steps::refusal_of(given.save(form_of(form), text))
 }
 
-// Reads a text of a form back as a hart and its map, and posts that to the ledger. 0, or the number of the refusal, 4 before 5; then hart, map and ledger are left as
-// they were. What a hart and a map that go in are does not matter to the reading, so any stand for them.
+// Reads a text of a form back as a hart and its map. 0, or the number of the refusal, 4 before 5; then hart and map are left as they were. What a hart and
+// a map that go in are does not matter to the reading, so any stand for them.
 #[unsafe(no_mangle)]
 pub extern "C" fn tegrwyllt_restore(
     form: u64,
     text: &[u8],
     hart: &mut [u64],
     map: &mut [u64],
-    ledger: &mut [u64],
 ) -> u64
-    ensures value { result ≡ restore_result form text.now hart.old map.old ledger.old }
-    ensures hart_after { hart.new ≡ restored_hart form text.now hart.old map.old ledger.old }
-    ensures map_after { map.new ≡ restored_map form text.now hart.old map.old ledger.old }
-    ensures ledger_after { ledger.new ≡ ledger_restored form text.now hart.old map.old ledger.old }
+    ensures value { result ≡ restore_result form text.now hart.old map.old }
+    ensures hart_after { hart.new ≡ restored_hart form text.now hart.old map.old }
+    ensures map_after { map.new ≡ restored_map form text.now hart.old map.old }
 {
-    if !(is_form(form) & (fit(hart.len(), map.len()) & ledgers::fits_ledger(ledger))) {
+    if !(is_form(form) & fit(hart.len(), map.len())) {
         return MISFIT;
     }
     let given = Hart {
@@ -207,7 +198,6 @@ pub extern "C" fn tegrwyllt_restore(
     let after = read.hart;
     let fresh_map = read.map;
     put(after, fresh_map, hart, map);
-    ledgers::post_restore(ledger);
     0
 }
 
@@ -224,9 +214,8 @@ pub extern "C" fn tegrwyllt_convert(to: u64, text: &[u8], buffer: &mut [u8]) -> 
     steps::refusal_of(hart::convert(form_of(to), text, buffer))
 }
 
-// Feeds a scrap of a trace to a reader: each full record steps the hart, with the memory and ledger lent to it, and has an answer of four words. As many bytes are
-// taken as there is room to answer, and from a broken record on every byte. The number of bytes taken, or 2^64-1 where a length, the stopped word or a ledger's idle
-// word is another.
+// Feeds a scrap of a trace to a reader: each full record steps the hart, with the memory lent to it, and has an answer of four words. As many bytes are taken as
+// there is room to answer, and from a broken record on every byte. The number of bytes taken, or 2^64-1 where a length or the stopped word is another.
 #[unsafe(no_mangle)]
 pub extern "C" fn tegrwyllt_feed(
     carried: &mut [u8],
@@ -235,28 +224,25 @@ pub extern "C" fn tegrwyllt_feed(
     map: &mut [u64],
     memory: &[u64],
     base: u64,
-    ledger: &mut [u64],
     scrap: &[u8],
     answers: &mut [u64],
 ) -> u64
-    ensures value { result ≡ (feed_call carried.old place.old hart.old map.old (memory_at memory.now base) ledger.old scrap.now answers.old).result }
-    ensures carried_after { carried.new ≡ (feed_call carried.old place.old hart.old map.old (memory_at memory.now base) ledger.old scrap.now answers.old).carried }
-    ensures place_after { place.new ≡ (feed_call carried.old place.old hart.old map.old (memory_at memory.now base) ledger.old scrap.now answers.old).place }
-    ensures hart_after { hart.new ≡ (feed_call carried.old place.old hart.old map.old (memory_at memory.now base) ledger.old scrap.now answers.old).hart }
-    ensures map_after { map.new ≡ (feed_call carried.old place.old hart.old map.old (memory_at memory.now base) ledger.old scrap.now answers.old).map }
-    ensures ledger_after { ledger.new ≡ (feed_call carried.old place.old hart.old map.old (memory_at memory.now base) ledger.old scrap.now answers.old).ledger }
-    ensures answers_after { answers.new ≡ (feed_call carried.old place.old hart.old map.old (memory_at memory.now base) ledger.old scrap.now answers.old).answers }
+    ensures value { result ≡ (feed_call carried.old place.old hart.old map.old (memory_at memory.now base) scrap.now answers.old).result }
+    ensures carried_after { carried.new ≡ (feed_call carried.old place.old hart.old map.old (memory_at memory.now base) scrap.now answers.old).carried }
+    ensures place_after { place.new ≡ (feed_call carried.old place.old hart.old map.old (memory_at memory.now base) scrap.now answers.old).place }
+    ensures hart_after { hart.new ≡ (feed_call carried.old place.old hart.old map.old (memory_at memory.now base) scrap.now answers.old).hart }
+    ensures map_after { map.new ≡ (feed_call carried.old place.old hart.old map.old (memory_at memory.now base) scrap.now answers.old).map }
+    ensures answers_after { answers.new ≡ (feed_call carried.old place.old hart.old map.old (memory_at memory.now base) scrap.now answers.old).answers }
 {
     if !(fit(hart.len(), map.len())
-        & (ledgers::fits_ledger(ledger)
-            & ((carried.len() == 59) & (feeding::is_place(place) & (answers.len() % 4 == 0)))))
+        & ((carried.len() == 59) & (feeding::is_place(place) & (answers.len() % 4 == 0))))
     {
         return MISFIT;
     }
     let reader = feeding::load_reader(carried, place);
     let mut words = [0u64; 43];
     maps::copy(hart, &mut words);
-    let next = reader.feed_words(&mut words, memory, base, ledger, scrap, answers);
+    let next = reader.feed_words(&mut words, memory, base, scrap, answers);
     let after = next.reader;
     feeding::store_reader(after, (next.filled / 4) as u64, carried, place);
     maps::store_words(words, hart);

@@ -31,7 +31,7 @@ use Rattle.claims.proofs.InterruptOrder.{takes_first}
 use Rattle.claims.proofs.OneAccess.{one_load, one_store, one_fetch, access_answered}
 use Rattle.claims.proofs.NoAccess.{no_access}
 use Rattle.claims.proofs.Deciding.{entry_decides_lem, cause_for_lem, none_decides_lem, effective_mode_lem}
-use Rattle.claims.proofs.Querying.{count-read, range_found, range_missing, sizes, lowest-faults, query_one, query-two, one_range, query-beyond}
+use Rattle.claims.proofs.Querying.{count-read, range_found, range_missing, sizes, lowest-faults, query_one, query_two, one_range, query-beyond}
 
 -- ---- the saved text
 
@@ -110,7 +110,7 @@ consequences =
       entry_decides_lem = entry_decides_lem;
       none_decides_lem = none_decides_lem;
       effective_mode_lem = effective_mode_lem;
-      mode-numbers = (refl, refl, refl);
+      mode_numbers = (refl, refl, refl);
       owner = owner;
       lines = λ s. (saved_lines s, refl, text-length First (words_of s));
       second-lines = λ s. (second-lines s, refl, text-length Second (words_of s));
@@ -126,7 +126,7 @@ consequences =
       query-beyond = λ h map mode access address size held s. query-beyond h map mode access address size held s;
       sizes = sizes;
       query_one = λ h map mode access address size o held s. query_one h map mode access address size held s o;
-      query-two = λ h map mode access address size low byte held s. query-two h map mode access address size held s low byte;
+      query_two = λ h map mode access address size low byte held s. query_two h map mode access address size held s low byte;
       one_range = λ spans h map mode access address size low r held s. one_range h map mode access address size held s spans low r;
       count-read = count-read;
     }

@@ -41,7 +41,6 @@ use Rattle.trap.specs.Return.{returned, may_return, return_step, may_wait, waite
 use Rattle.trap.specs.Time.{advanced, elapsed}
 use Rattle.trap.specs.Events.{event_step}
 use Rattle.map.specs.declared.Map.{Map}
-use Rattle.ledger.specs.Given.{Unmetered}
 use Rattle.engine.specs.Effects.{Effect, refused, csr_step, access_decided, context_of, access_at, access_step, event_effect, step_rule}
 use Rattle.hart.specs.declared.Hart.{Hart}
 use Rattle.hart.specs.declared.Stepped.{Stepped}
@@ -159,7 +158,7 @@ module _ (number : ℕ) (counter : Counters → ℕ) (written : WriteLeaves numb
 
 others_leave : (number : ℕ) (counter : Counters → ℕ) → WriteLeaves number counter → OthersLeave number counter
 others_leave number counter written h map m step e =
-    ap (λ (x : Stepped). counter x.hart.state.registers.counters) (step_parts h map m (Unmetered step)) ∙ rule_leaves number counter written h.state m step e
+    ap (λ (x : Stepped). counter x.hart.state.registers.counters) (step_parts h map m step) ∙ rule_leaves number counter written h.state m step e
 
 pub mcycle_left : OthersLeave 0xB00 (λ c. c.mcycle)
 mcycle_left = others_leave 0xB00 (λ c. c.mcycle) mcycle_written

@@ -65,12 +65,12 @@ none_decides_lem cfgs Machine access = refl
 
 -- ---- the effective mode
 
-load-mode : (r : Registers) → effective_mode r Load ≡ load_mode r
-load-mode r =
+load_mode_lem : (r : Registers) → effective_mode r Load ≡ load_mode r
+load_mode_lem r =
     let x = r.mstatus in
     let e : previous_mode Level.Machine x ≡ x / 2 ^ 11 % 4 = rw (and_high x 2 11) (omega arith) in
     rw e
 
 pub effective_mode_lem : (r : Registers)
     → (effective_mode r Fetch ≡ mode_of r.mode) × (effective_mode r Load ≡ load_mode r) × (effective_mode r Store ≡ load_mode r)
-effective_mode_lem r = (refl, load-mode r, load-mode r)
+effective_mode_lem r = (refl, load_mode_lem r, load_mode_lem r)

@@ -15,8 +15,3 @@ pub mod Deciding
 pub mod Querying
 pub mod Grain
 pub mod Consequences
-pub mod PostedLaws
-pub mod LedgerRefusals
-pub mod HistoryLaws
-pub mod Billing
-pub mod WorkedHistory

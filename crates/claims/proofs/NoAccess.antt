@@ -7,7 +7,6 @@ use Rattle.state.specs.Hold.{can_hold}
 use Rattle.trap.proofs.Answers.{OfNoAccess}
 use Rattle.paging.specs.Memory.{Memory}
 use Rattle.map.specs.declared.Map.{Map}
-use Rattle.ledger.specs.Given.{Unmetered}
 use Rattle.engine.specs.Effects.{step_rule}
 use Rattle.engine.proofs.Answers.{other-answer}
 use Rattle.hart.specs.declared.Hart.{Hart}
@@ -22,5 +21,5 @@ each_answer = record { done = tt; value = λ old. tt; flag = λ yes. tt; refused
 pub no_access : (h : Hart) (map : Map) (m : Memory) (step : Step) → is_access step ≡ false → NoEntry (stepped h map m step).answer
 unfolding step_rule
 no_access h map m step e =
-    subst NoEntry (sym (ap (λ (x : Stepped). x.answer) (step_parts h map m (Unmetered step))))
+    subst NoEntry (sym (ap (λ (x : Stepped). x.answer) (step_parts h map m step)))
     (other-answer NoEntry each_answer h.state m (can_hold h.state) step e)

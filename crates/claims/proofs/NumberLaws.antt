@@ -1,25 +1,18 @@
--- The numbers of an answer tell which answer it is, and those of a step which step. Assumes nothing.
+-- The numbers of an answer tell which answer it is. Assumes nothing.
 use Prim.Native.Nat.{ℕ, ◌+◌, ◌-◌, ◌^◌, ◌<◌, ◌≤◌}
 use mathlib.Core.Path.{◌≡◌, refl, ap}
 use mathlib.Core.Bool.{true, false}
 use native.Mathlib.Omega.{arith}
 use lib.ListN.{length, get_or}
 use borrow.Author.Tests.{lt-ltb, le-ltb}
-use Rattle.pmp.specs.declared.Access.TheVariants.{Fetch, Load, Store}
 use Rattle.pmp.specs.declared.Decision.{Decision}
 use Rattle.steps.specs.declared.Level.{Level}
 use Rattle.steps.specs.declared.Level.TheVariants.{Supervisor, Machine}
 use Rattle.steps.specs.declared.Trap.{Trap}
 use Rattle.steps.specs.declared.Trap.TheVariants.{Exception, Interrupt}
-use Rattle.steps.specs.declared.Operation.TheVariants.{Write, Set, Clear, Read}
-use Rattle.steps.specs.declared.Event.TheVariants.{Raise, Lines, TakeInterrupt, Mret, Sret, Wfi, Ecall, Ebreak, Advance, Elapsed}
-use Rattle.steps.specs.declared.Step.{Step}
-use Rattle.steps.specs.declared.Step.TheVariants.{Reset, Csr, Access as AccessStep, Event as EventStep}
-use Rattle.steps.specs.declared.Decoded.TheVariants.{Formed}
 use Rattle.steps.specs.declared.Answer.{Answer}
 use Rattle.steps.specs.declared.Answer.TheVariants.{Done, DoneValue, DoneFlag, Granted, Trapped, Refused}
 use Rattle.steps.specs.Number.{level_number, cause_number, answer_numbers, decision_numbers}
-use Rattle.steps.specs.Decode.{decoded, numbers_of}
 use Rattle.claims.specs.Numbers.{trap_of, level_of, answer_of, decision_of, exception_cause, entry_told, Numbered}
 
 level_back : (level : Level) → level_of (level_number level) ≡ level
@@ -58,26 +51,5 @@ four-numbers (Granted entry) = (refl, refl)
 four-numbers (Trapped trap level entry) = (refl, refl)
 four-numbers (Refused number) = (refl, refl)
 
-pub step_back : (s : Step) → decoded (get_or (numbers_of s) 0 0) (get_or (numbers_of s) 1 0) (get_or (numbers_of s) 2 0) ≡ Formed s
-unfolding decoded
-step_back Reset = refl
-step_back (Csr Write number operand) = refl
-step_back (Csr Set number operand) = refl
-step_back (Csr Clear number operand) = refl
-step_back (Csr Read number operand) = refl
-step_back (AccessStep Fetch address size) = refl
-step_back (AccessStep Load address size) = refl
-step_back (AccessStep Store address size) = refl
-step_back (EventStep (Raise cause tval)) = refl
-step_back (EventStep (Lines lines)) = refl
-step_back (EventStep TakeInterrupt) = refl
-step_back (EventStep Mret) = refl
-step_back (EventStep Sret) = refl
-step_back (EventStep Wfi) = refl
-step_back (EventStep Ecall) = refl
-step_back (EventStep Ebreak) = refl
-step_back (EventStep (Advance target)) = refl
-step_back (EventStep (Elapsed cycles retired)) = refl
-
 pub answers_numbered : Numbered
-answers_numbered = record { answers = answer_back; decisions = decision-back; four = four-numbers; steps = step_back }
+answers_numbered = record { answers = answer_back; decisions = decision-back; four = four-numbers }

@@ -143,10 +143,10 @@ module _ (h : Hart) (map : Map) (mode : Mode) (access : Access) (address size : 
   query_one o below valid owned =
       known below (λ b l k. omega (arith, owned b l k)) ∙ one_decides cfgs mode access address size owner o (sized size s).1 valid owned
 
-  pub query-two : (low byte : ℕ) → address + size ≤ 2 ^ 56 → ((b : ℕ) → address ≤ b → b < address + size → owner b ≤ 16)
+  pub query_two : (low byte : ℕ) → address + size ≤ 2 ^ 56 → ((b : ℕ) → address ≤ b → b < address + size → owner b ≤ 16)
       → LowestOf owner address size low → address ≤ byte → byte < address + size → (owner byte ≡ low → ⊥)
       → query_answer h map mode access address size ≡ Decision.Fault (cause_for access) low
-  query-two low byte below valid t l k other =
+  query_two low byte below valid t l k other =
       known below valid ∙ lowest-faults cfgs mode access address size owner low byte (valid byte l k) t l k other
 
   -- on a map as 01 lays it down

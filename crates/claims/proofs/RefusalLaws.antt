@@ -104,15 +104,15 @@ module _ {A : Type 0} (RefusedWith : ℕ → A) (refusing : A → Bool) (number 
   exactly none a t n = (λ e. contradiction (ap refusing e ∙ refusing-is n) t, λ e. absurd (none-ne-some n e))
   exactly (some m) a t n = (λ e. ap {B = Option ℕ} some (one_number t e), λ e. t ∙ ap RefusedWith (some-injective m n e))
 
-abbrev pub Told : Option ℕ → Answer → Type 0
+abbrev Told : Option ℕ → Answer → Type 0
 Told = Tells Refused refuses refusal_of (λ n. refl) (λ n. refl)
 
-pub told_exactly : (table : Option ℕ) (a : Answer) → Told table a → Exactly (λ n. a ≡ Refused n) table
+told_exactly : (table : Option ℕ) (a : Answer) → Told table a → Exactly (λ n. a ≡ Refused n) table
 told_exactly = exactly Refused refuses refusal_of (λ n. refl) (λ n. refl)
 
 -- ---- what is handed back: the table's refusal with the hart and map that went in, or no refusal
 
-abbrev pub Handed : Hart → Map → Option ℕ → Stepped → Type 0
+abbrev Handed : Hart → Map → Option ℕ → Stepped → Type 0
 Handed h map none r = refuses r.answer ≡ false
 Handed h map (some n) r = r ≡ handed_back h map (Refused n)
 
@@ -120,10 +120,10 @@ handed_told : (h : Hart) (map : Map) (table : Option ℕ) (r : Stepped) → Hand
 handed_told h map none r t = t
 handed_told h map (some n) r t = ap (λ (s : Stepped). s.answer) t
 
-pub handed_exactly : (h : Hart) (map : Map) (table : Option ℕ) (r : Stepped) → Handed h map table r → Exactly (λ n. r.answer ≡ Refused n) table
+handed_exactly : (h : Hart) (map : Map) (table : Option ℕ) (r : Stepped) → Handed h map table r → Exactly (λ n. r.answer ≡ Refused n) table
 handed_exactly h map table r t = told_exactly table r.answer (handed_told h map table r t)
 
-pub handed_unchanged : (h : Hart) (map : Map) (table : Option ℕ) (r : Stepped) → Handed h map table r → (n : ℕ) → r.answer ≡ Refused n
+handed_unchanged : (h : Hart) (map : Map) (table : Option ℕ) (r : Stepped) → Handed h map table r → (n : ℕ) → r.answer ≡ Refused n
     → r ≡ handed_back h map (Refused n)
 handed_unchanged h map none r t n e = contradiction (ap refuses e) t
 handed_unchanged h map (some m) r t n e =
@@ -205,7 +205,7 @@ with-map : (h : Hart) (map : Map) (table : Option ℕ) (e : Effect) → Refuses 
 with-map h map none e q = q
 with-map h map (some n) e q = ap (with_map h map) q ∙ rw (same_pmp-refl h.state.pmp)
 
-pub step_handed : (h : Hart) (map : Map) (m : Memory) (step : Step) → Handed h map (step_refusal h.state m step) (stepped h map m step)
+step_handed : (h : Hart) (map : Map) (m : Memory) (step : Step) → Handed h map (step_refusal h.state m step) (stepped h map m step)
 unfolding stepped step_rule
 step_handed h map m step = go (is_reset step) (can_hold h.state)
   where
@@ -316,7 +316,7 @@ module _ (form : Form) (h : Hart) (buffer : List ℕ) where
       go true false false e = refl
       go false b c e = refl
 
-pub read_handed : (form : Form) (h : Hart) (map : Map) (text : List ℕ) → Handed h map (restore_refusal form text) (restored form h map text)
+read_handed : (form : Form) (h : Hart) (map : Map) (text : List ℕ) → Handed h map (restore_refusal form text) (restored form h map text)
 unfolding restored
 read_handed form h map text = rw (unheld form s) (go (read_text form text).ok (can_hold s) (form_holds form s))
   where

@@ -319,7 +319,7 @@ pub record Consequences : Type 0 where
   pub effective_mode_lem : (r : Registers)
       → (effective_mode r Fetch ≡ mode_of r.mode) × (effective_mode r Load ≡ load_mode r) × (effective_mode r Store ≡ load_mode r)
   -- "modes U=0, S=1, M=3"
-  pub mode-numbers : (mode_of 0 ≡ User) × (mode_of 1 ≡ Supervisor) × (mode_of 3 ≡ Machine)
+  pub mode_numbers : (mode_of 0 ≡ User) × (mode_of 1 ≡ Supervisor) × (mode_of 3 ≡ Machine)
   -- "owner being the lowest entry matching each byte or none"
   pub owner : (spans : ℕ → Span) (byte : ℕ) → LowestOwner spans byte (owner_of spans byte)
   -- "41 lines, each key, `=`, 16 lower-case hexadecimal digits, line feed; 1,027 bytes. Keys in this order"
@@ -354,7 +354,7 @@ pub record Consequences : Type 0 where
   pub query_one : (h : Hart) (map : Map) (mode : Mode) (access : Access) (address size owner : ℕ) → can_hold h.state ≡ true → Sized size
       → address + size ≤ 2 ^ 56 → owner ≤ 16 → ((byte : ℕ) → address ≤ byte → byte < address + size → owner_in (ranges_in map) byte ≡ owner)
       → query_answer h map mode access address size ≡ owner_decides h.state.pmp.cfgs mode access owner
-  pub query-two : (h : Hart) (map : Map) (mode : Mode) (access : Access) (address size low byte : ℕ) → can_hold h.state ≡ true → Sized size
+  pub query_two : (h : Hart) (map : Map) (mode : Mode) (access : Access) (address size low byte : ℕ) → can_hold h.state ≡ true → Sized size
       → address + size ≤ 2 ^ 56 → ((other : ℕ) → address ≤ other → other < address + size → owner_in (ranges_in map) other ≤ 16)
       → LowestOf (owner_in (ranges_in map)) address size low → address ≤ byte → byte < address + size → (owner_in (ranges_in map) byte ≡ low → ⊥)
       → query_answer h map mode access address size ≡ Decision.Fault (cause_for access) low

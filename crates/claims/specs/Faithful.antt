@@ -1,5 +1,4 @@
--- 01, "What has to be nailed", and 02, [4], [5] and [8] to [10]: demand 3, one claim about the whole list of steps, step 18 among them, each with the memory and
--- the ledger lent at it, or with no ledger; the registers heed refusals 9 and 10.
+-- 01, "What has to be nailed", and 02, [5] and [8] to [10]: demand 3, one claim about the whole list of steps, each with the memory lent at it.
 use Rattle.std.specs.Prelude.{ℕ, ◌+◌, ◌≤◌, ◌<◌, ◌≡◌, true, ◌⊎◌, List, take}
 use Rattle.pmp.specs.declared.Mode.{Mode}
 use Rattle.pmp.specs.declared.Access.{Access}

@@ -1,4 +1,4 @@
--- What is claimed of the whole hart: demands 2 and 3, the tables of refusals, the totals of a ledger, the worked settings and history.
+-- What is claimed of the whole hart: demands 2 and 3, the table of refusals, the worked settings.
 pub mod Numbers
 pub mod Refusals
 pub mod Keeps
@@ -10,7 +10,3 @@ pub mod InterruptOrder
 pub mod SavedLines
 pub mod Grain
 pub mod Consequences
-pub mod LedgerRefusals
-pub mod History
-pub mod Billing
-pub mod WorkedHistory

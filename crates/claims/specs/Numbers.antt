@@ -1,16 +1,13 @@
--- 01, "Use these forms": an answer's number and values tell which answer it is; "Steps": so do a step's number and arguments.
+-- 01, "Use these forms": an answer's number and values tell which answer it is.
 use Rattle.std.specs.Prelude.{ℕ, ◌-◌, ◌^◌, ◌<◌, ◌≡◌, cond, List, [], ◌∷◌, eqb, ltb, length, get_or}
 use Rattle.pmp.specs.declared.Decision.{Decision}
 use Rattle.steps.specs.declared.Level.{Level}
 use Rattle.steps.specs.declared.Level.TheVariants.{Supervisor, Machine}
 use Rattle.steps.specs.declared.Trap.{Trap}
 use Rattle.steps.specs.declared.Trap.TheVariants.{Exception, Interrupt}
-use Rattle.steps.specs.declared.Step.{Step}
-use Rattle.steps.specs.declared.Decoded.TheVariants.{Formed}
 use Rattle.steps.specs.declared.Answer.{Answer}
 use Rattle.steps.specs.declared.Answer.TheVariants.{Done, DoneValue, DoneFlag, Granted, Trapped, Refused}
 use Rattle.steps.specs.Number.{answer_numbers, decision_numbers}
-use Rattle.steps.specs.Decode.{decoded, numbers_of}
 
 -- interrupt cause is 2^63+i
 abbrev pub trap_of : ℕ → Trap
@@ -64,5 +61,3 @@ pub record Numbered : Type 0 where
   pub decisions : (d : Decision) → decision_of (decision_numbers d) ≡ d
   -- there are four numbers, of which the fourth is the entry
   pub four : (a : Answer) → (length (answer_numbers a) ≡ 4) × (get_or (answer_numbers a) 3 0 ≡ entry_told a)
-  -- the number of a step and its arguments a, b name it
-  pub steps : (s : Step) → decoded (get_or (numbers_of s) 0 0) (get_or (numbers_of s) 1 0) (get_or (numbers_of s) 2 0) ≡ Formed s

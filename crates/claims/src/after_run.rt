@@ -1,11 +1,10 @@
-// A query after a whole run. The contracts name no map: they are demand 3, said of the program. One slice of words is lent to all steps of a run, and a ledger of
-// twelve words, if one is lent, is carried through them.
+// A query after a whole run. The contracts name no map: they are demand 3, said of the program. One slice of words is lent to all steps of a run.
 ghost use Rattle.std.specs.Prelude.{◌≡◌};
 ghost use Rattle.paging.specs.Memory.{memory_at};
 ghost use Rattle.state.specs.Hold.{reset_state};
 ghost use Rattle.hart.specs.Runs.{with};
 ghost use Rattle.claims.specs.Faithful.{query_after};
-ghost use Rattle.claims.specs.AfterRun.{steps_in, ledger_after, rule_after, state_read, rule_from_text, ledger_from_text};
+ghost use Rattle.claims.specs.AfterRun.{steps_in, rule_after, rule_from_text};
 
 use hart::Hart;
 use map::Map;
@@ -18,20 +17,18 @@ fn query_after(
     map: Map,
     memory: &[u64],
     base: u64,
-    ledger: &mut [u64],
     steps: &[u64],
     mode: Mode,
     access: Access,
     address: u64,
     size: u64,
 ) -> Decision
-    ensures value { result ≡ query_after (with hart map) (steps_in (memory_at memory.now base) hart.state ledger.old steps.now) mode access address size }
-    ensures ledger_after { ledger.new ≡ ledger_after (memory_at memory.now base) hart.state ledger.old steps.now }
+    ensures { result ≡ query_after (with hart map) (steps_in (memory_at memory.now base) steps.now) mode access address size }
 {
     let state = hart.state;
     let mut words = state::to_words(state);
     let mut answers = [0u64; 1];
-    let remap = engine::run(&mut words, memory, base, ledger, steps, &mut answers);
+    let remap = engine::run(&mut words, memory, base, steps, &mut answers);
     let after = state::of_words(words);
     let left = Hart { state: after };
     if !remap {
@@ -47,39 +44,33 @@ pub fn query_from_reset(
     grain: u64,
     memory: &[u64],
     base: u64,
-    ledger: &mut [u64],
     steps: &[u64],
     mode: Mode,
     access: Access,
     address: u64,
     size: u64,
 ) -> Decision
-    ensures value { result ≡ rule_after (reset_state grain) (steps_in (memory_at memory.now base) (reset_state grain) ledger.old steps.now) mode access address size }
-    ensures ledger_after { ledger.new ≡ ledger_after (memory_at memory.now base) (reset_state grain) ledger.old steps.now }
+    ensures { result ≡ rule_after (reset_state grain) (steps_in (memory_at memory.now base) steps.now) mode access address size }
 {
     let start = Hart::reset(grain);
     let hart = start.hart;
     let map = start.map;
-    query_after(
-        hart, map, memory, base, ledger, steps, mode, access, address, size,
-    )
+    query_after(hart, map, memory, base, steps, mode, access, address, size)
 }
 
-// A query after a run from a saved text of a form. A refused text answers with its refusal, and leaves the ledger.
+// A query after a run from a saved text of a form. A refused text answers with its refusal.
 pub fn query_from_text(
     form: Form,
     text: &[u8],
     memory: &[u64],
     base: u64,
-    ledger: &mut [u64],
     steps: &[u64],
     mode: Mode,
     access: Access,
     address: u64,
     size: u64,
 ) -> Decision
-    ensures value { result ≡ rule_from_text form text.now (steps_in (memory_at memory.now base) (state_read form text.now) ledger.old steps.now) mode access address size }
-    ensures ledger_after { ledger.new ≡ ledger_from_text form text.now (memory_at memory.now base) ledger.old steps.now }
+    ensures { result ≡ rule_from_text form text.now (steps_in (memory_at memory.now base) steps.now) mode access address size }
 {
     let start = Hart::reset(0);
     let blank = start.hart;
@@ -90,9 +81,7 @@ pub fn query_from_text(
     if refusal == 0 {
         let hart = read.hart;
         let map = read.map;
-        query_after(
-            hart, map, memory, base, ledger, steps, mode, access, address, size,
-        )
+        query_after(hart, map, memory, base, steps, mode, access, address, size)
     } else {
         Decision::Refused(refusal)
     }

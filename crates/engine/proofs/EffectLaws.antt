@@ -63,7 +63,7 @@ access_pmp s m Store address size = at-pmp s m Store address size
 -- ---- the grain
 
 -- the effect has the state's grain
-abbrev pub KeepsGrain : State → Effect → Type 0
+abbrev KeepsGrain : State → Effect → Type 0
 KeepsGrain s e = e.state.pmp.grain ≡ s.pmp.grain
 
 operated-grain : (p : Pmp) (op : Operation) (number operand old : ℕ) → (pmp_operated p op number operand old).grain ≡ p.grain

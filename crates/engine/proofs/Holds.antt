@@ -1,6 +1,6 @@
 -- Every step keeps a state that a hart can hold. Assumes nothing.
 use Prim.Native.Nat.{ℕ}
-use mathlib.Core.Path.{◌≡◌, refl, subst}
+use mathlib.Core.Path.{◌≡◌, refl}
 use mathlib.Core.Bool.{Bool, true, false, cond, ◌&&◌, ◌||◌}
 use mathlib.Core.List.{List}
 use native.Mathlib.Omega.{arith}
@@ -38,7 +38,7 @@ use Rattle.csr.specs.Operate.{operated, registers_operated}
 use Rattle.csr.proofs.RegistersKept.{registers_operated_kept}
 use Rattle.trap.specs.Enter.{illegal_instruction}
 use Rattle.trap.specs.Return.{next_pc}
-use Rattle.trap.proofs.Holdable.{raised-holdable, illegal_instruction_holdable, event_holdable, pc_holdable, next-aligned}
+use Rattle.trap.proofs.Holdable.{raised-holdable, illegal_instruction_holdable, event_holdable, pc_holdable, next_aligned}
 use Rattle.engine.specs.Effects.{
   Effect,
   refused,
@@ -58,10 +58,7 @@ use Rattle.engine.specs.Effects.{
   is_reset,
   step_rule,
 }
-use Rattle.ledger.specs.Given.{Given}
-use Rattle.engine.specs.Metering.{given_rule}
 use Rattle.engine.specs.Runs.{Lent, state_after, after_all}
-use Rattle.engine.proofs.GivenLaws.{given_has, given_ruled}
 
 -- the state that an effect leaves can be held
 abbrev pub Holds : Effect → Type 0
@@ -93,8 +90,8 @@ module _ (s : State) (p : can_hold s ≡ true) where
   on_registers_lem : (r : Registers) → registers_holdable r ≡ true → can_hold (with_registers s r) ≡ true
   on_registers_lem r q = hold (with_registers s r) q pmp-held satp-held
 
-  next-held : (r : Registers) → registers_holdable r ≡ true → registers_holdable (with_pc r (next_pc s.registers)) ≡ true
-  next-held r q = pc_holdable r q (next_pc s.registers) (next-aligned s.registers.pc (held s.registers registers_held).pc)
+  next_held : (r : Registers) → registers_holdable r ≡ true → registers_holdable (with_pc r (next_pc s.registers)) ≡ true
+  next_held r q = pc_holdable r q (next_pc s.registers) (next_aligned s.registers.pc (held s.registers registers_held).pc)
 
   csr_holds : (op : Operation) (number operand : ℕ) → Holds (csr_step s op number operand)
   unfolding csr_step
@@ -111,14 +108,14 @@ module _ (s : State) (p : can_hold s ≡ true) where
       (λ u.
       by_test Holds (is_pmp number) protect apart
       (λ v.
-      hold protect.state (next-held s.registers registers_held)
+      hold protect.state (next_held s.registers registers_held)
       (pmp-operated_kept s.pmp pmp-held op number operand (pmp_read s.pmp number)) satp-held)
       (λ v.
       by_test Holds (eqb number 0x180) translation other
-      (λ z. hold translation.state (next-held s.registers registers_held) pmp-held (satp-operated_kept s.satp satp-held op operand))
+      (λ z. hold translation.state (next_held s.registers registers_held) pmp-held (satp-operated_kept s.satp satp-held op operand))
       (λ z.
       on_registers_lem _
-      (next-held (registers_operated s.registers op number operand (register_read s.registers number))
+      (next_held (registers_operated s.registers op number operand (register_read s.registers number))
       (registers_operated_kept s.registers registers_held op number operand (register_read s.registers number)))))))
 
   decided-holds : (access : Access) {Start : ℕ → Type 0} (d : Reached) → Answered access Start d → Holds (access_decided s d)
@@ -156,12 +153,7 @@ module _ (s : State) (p : can_hold s ≡ true) where
     unfolding step_rule
     rule_holds step = by_test Holds (is_reset step || can_hold s) (effect s m step) (refused s 3) (λ t. effect-holds step) (λ t. p)
 
-    -- with a ledger lent, too
-    pub given_holds : (g : Given) → Holds (given_rule s m g)
-    unfolding step_rule
-    given_holds g = subst Holds (given_ruled (can_hold s) s m g refl) (given_has Holds (can_hold s) s m rule_holds p (λ number. p) g)
-
 -- over any list of steps
 pub after_holds : (steps : List Lent) (s : State) → can_hold s ≡ true → can_hold (after_all s steps) ≡ true
 after_holds steps s p =
-    fold-keeps state_after (λ (t : State). can_hold t ≡ true) (λ t l q. given_holds t q l.memory l.given) s steps p
+    fold-keeps state_after (λ (t : State). can_hold t ≡ true) (λ t l q. rule_holds t q l.memory l.step) s steps p

@@ -1,10 +1,8 @@
 -- Laws of the step rule and of runs.
 pub mod EffectLaws
-pub mod GivenLaws
 pub mod Holds
 pub mod Answers
 pub mod Plain
 pub mod InPlace
 pub mod TakingLaws
-pub mod MeteringLaws
 pub mod RunLaws

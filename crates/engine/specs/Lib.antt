@@ -1,5 +1,4 @@
 -- The definitions that the contracts cite.
 pub mod Effects
-pub mod Metering
 pub mod Taking
 pub mod Runs

@@ -7,7 +7,7 @@ mod events;
 mod runs;
 mod taking;
 
-pub use runs::{last_step, run, step_into, step_named};
+pub use runs::{run, step_into, step_named};
 pub use taking::step;
 
 // What is told of a step besides the words that it leaves: its answer, whether a hart can hold what is left, and whether the map has to be compiled

@@ -13,21 +13,21 @@ use Rattle.protection.specs.Same.{same_pmp}
 use Rattle.protection.proofs.SameLaws.{same_pmp_lem}
 use Rattle.state.specs.declared.State.{State}
 use Rattle.map.specs.declared.Map.{Map}
-use Rattle.engine.specs.Metering.{resets}
-use Rattle.engine.proofs.GivenLaws.{given-grain}
+use Rattle.engine.specs.Effects.{is_reset}
+use Rattle.engine.proofs.EffectLaws.{rule_grain}
 use Rattle.engine.specs.Runs.{Lent, state_after, after_all, answer_after, answers_of, remaps_at, any_remaps}
 use Rattle.hart.specs.declared.Hart.{Hart}
 use Rattle.hart.specs.declared.Mapped.{Mapped}
 use Rattle.hart.specs.declared.Stepped.{Stepped}
-use Rattle.hart.specs.Steps.{map_for, hart_with, stepped_by}
+use Rattle.hart.specs.Steps.{map_for, hart_with, stepped}
 use Rattle.hart.specs.Runs.{with, handed_on, left_by, answers_by}
 use Rattle.hart.proofs.StepLaws.{step_parts}
 
 -- a step that does not remap leaves the protection registers as they were
 unremapped : (s : State) (l : Lent) → remaps_at s l ≡ false → s.pmp ≡ (state_after s l).pmp
 unremapped s l e =
-    let n = neither (resets l.given) (not (same_pmp s.pmp (state_after s l).pmp)) e in
-    same_pmp_lem s.pmp (state_after s l).pmp (sym (given-grain s l.memory l.given n.0)) (not-false (same_pmp s.pmp (state_after s l).pmp) n.1)
+    let n = neither (is_reset l.step) (not (same_pmp s.pmp (state_after s l).pmp)) e in
+    same_pmp_lem s.pmp (state_after s l).pmp (sym (rule_grain s l.memory l.step n.0)) (not-false (same_pmp s.pmp (state_after s l).pmp) n.1)
 
 pub pmp-stays : (s : State) (steps : List Lent) → any_remaps s steps ≡ false → s.pmp ≡ (after_all s steps).pmp
 pmp-stays s steps e = no_step-keeps state_after remaps_at (λ (t : State). t.pmp) unremapped s steps e
@@ -55,7 +55,7 @@ left_is [] h map = refl
 left_is (l ∷ steps) h map =
     let s = state_after h.state l in
     let n = cond (remaps_at h.state l) (map_for s.pmp) map in
-    ap (λ (x : Stepped). left_by x.hart x.map steps) (step_parts h map l.memory l.given) ∙ left_is steps (hart_with s) n
+    ap (λ (x : Stepped). left_by x.hart x.map steps) (step_parts h map l.memory l.step) ∙ left_is steps (hart_with s) n
     ∙ (λ j. with (hart_with (after_all s steps)) (map-by steps s map (remaps_at h.state l) j))
 
 -- the state, whatever the map is
@@ -77,7 +77,7 @@ own-map h map steps e =
 pub answers_are : (h : Hart) (map : Map) (steps : List Lent) → answers_by h map steps ≡ answers_of h.state steps
 answers_are h map steps =
     outputs_related handed_on state_after (λ (m : Mapped) (s : State). m.hart.state ≡ s)
-    (λ g s l e. ap (λ (x : Stepped). x.hart.state) (step_parts g.hart g.map l.memory l.given) ∙ ap (λ (t : State). state_after t l) e)
-    (λ g l. answer_numbers (stepped_by g.hart g.map l.memory l.given).answer) answer_after
-    (λ g s l e. ap (λ (x : Stepped). answer_numbers x.answer) (step_parts g.hart g.map l.memory l.given) ∙ ap (λ (t : State). answer_after t l) e)
+    (λ g s l e. ap (λ (x : Stepped). x.hart.state) (step_parts g.hart g.map l.memory l.step) ∙ ap (λ (t : State). state_after t l) e)
+    (λ g l. answer_numbers (stepped g.hart g.map l.memory l.step).answer) answer_after
+    (λ g s l e. ap (λ (x : Stepped). answer_numbers x.answer) (step_parts g.hart g.map l.memory l.step) ∙ ap (λ (t : State). answer_after t l) e)
     (with h map) h.state steps refl

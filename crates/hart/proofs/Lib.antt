@@ -3,4 +3,3 @@ pub mod Numbered
 pub mod StepLaws
 pub mod LeftLaws
 pub mod SavedLaws
-pub mod MeteringLaws

@@ -1,11 +1,11 @@
 -- A step by a hart: the step rule, and the map by whether the step remaps. Assumes nothing.
 use Prim.Native.Nat.{ℕ}
 use mathlib.Core.Path.{◌≡◌, refl, sym, ap, ◌∙◌}
-use mathlib.Core.Bool.{Bool, true, false, cond, not, false≢true}
+use mathlib.Core.Bool.{Bool, true, false, cond, not}
 use mathlib.Core.List.{List}
 use borrow.Author.Tests.{not-true, not-false}
 use Rattle.steps.specs.declared.Step.{Step}
-use Rattle.steps.specs.declared.Step.TheVariants.{Reset, Csr, Access as AccessStep, Event as EventStep}
+use Rattle.steps.specs.declared.Step.TheVariants.{Reset}
 use Rattle.protection.specs.Same.{same_pmp}
 use Rattle.paging.specs.Memory.{Memory}
 use Rattle.state.specs.declared.State.{State}
@@ -14,58 +14,35 @@ use Rattle.state.specs.Words.{state_of}
 use Rattle.map.specs.declared.Map.{Map}
 use Rattle.engine.specs.declared.Taken.{Taken}
 use Rattle.engine.specs.Effects.{is_reset, ruled_by, step_rule}
-use Rattle.ledger.specs.declared.Ledger.{Ledger}
-use Rattle.ledger.specs.declared.MeteredStep.{MeteredStep}
-use Rattle.ledger.specs.declared.MeteredStep.TheVariants.{Step as Plain, Tenant}
-use Rattle.ledger.specs.Rules.{refusal_by}
-use Rattle.ledger.specs.Given.{Given, Unmetered, Metered}
-use Rattle.engine.specs.Metering.{metered_reset, metered_rule, given_rule}
 use Rattle.engine.specs.Taking.{step_taken, remaps}
 use Rattle.engine.proofs.EffectLaws.{only-reset}
 use Rattle.hart.specs.declared.Hart.{Hart}
 use Rattle.hart.specs.declared.Stepped.{Stepped}
-use Rattle.hart.specs.Steps.{map_for, hart_with, handed_back, with_map, reset_done, stepped, posted, stepped_by}
+use Rattle.hart.specs.Steps.{map_for, hart_with, handed_back, stepped}
 
 -- what a step hands back, by the step rule and whether it remaps
-abbrev pub parts : Hart → Map → Memory → Given → Stepped
-parts h map m g =
-    handed_back (hart_with (given_rule h.state m g).state)
-    (cond (remaps h.state m g) (map_for (given_rule h.state m g).state.pmp) map)
-    (given_rule h.state m g).answer
+abbrev pub parts : Hart → Map → Memory → Step → Stepped
+parts h map m step =
+    handed_back (hart_with (step_rule h.state m step).state)
+    (cond (remaps h.state m step) (map_for (step_rule h.state m step).state.pmp) map)
+    (step_rule h.state m step).answer
 
-reset_parts : (h : Hart) (map : Map) (m : Memory) → stepped h map m Reset ≡ parts h map m (Unmetered Reset)
+reset_parts : (h : Hart) (map : Map) (m : Memory) → stepped h map m Reset ≡ parts h map m Reset
 unfolding stepped step_rule
 reset_parts h map m = refl
-
-metered-reset : (h : Hart) (map : Map) (m : Memory) (step : MeteredStep) (l : Ledger) → metered_reset step ≡ true
-    → reset_done h.state.pmp.grain ≡ parts h map m (Metered step l)
-unfolding refusal_by metered_rule
-metered-reset h map m (Plain Reset) l e = refl
-metered-reset h map m (Plain (Csr op number operand)) l e = absurd (false≢true e)
-metered-reset h map m (Plain (AccessStep access address size)) l e = absurd (false≢true e)
-metered-reset h map m (Plain (EventStep event)) l e = absurd (false≢true e)
-metered-reset h map m (Tenant a b) l e = absurd (false≢true e)
 
 flipped : (b : Bool) (x y : Map) → cond b x y ≡ cond (not b) y x
 flipped true x y = refl
 flipped false x y = refl
 
-pub step_parts : (h : Hart) (map : Map) (m : Memory) (g : Given) → stepped_by h map m g ≡ parts h map m g
-unfolding stepped posted
-step_parts h map m (Unmetered step) = go (is_reset step) refl
+pub step_parts : (h : Hart) (map : Map) (m : Memory) (step : Step) → stepped h map m step ≡ parts h map m step
+unfolding stepped
+step_parts h map m step = go (is_reset step) refl
   where
-    go : (b : Bool) → is_reset step ≡ b → stepped h map m step ≡ parts h map m (Unmetered step)
+    go : (b : Bool) → is_reset step ≡ b → stepped h map m step ≡ parts h map m step
     go true e = rw (only-reset step e) (reset_parts h map m)
     go false e =
         let r = step_rule h.state m step in
-        rw e (λ j. handed_back (hart_with r.state) (flipped (same_pmp h.state.pmp r.state.pmp) map (map_for r.state.pmp) j) r.answer)
-step_parts h map m (Metered step l) = go (metered_reset step) refl
-  where
-    go : (b : Bool) → metered_reset step ≡ b
-        → cond b (reset_done h.state.pmp.grain) (with_map h map (metered_rule h.state m step l)) ≡ parts h map m (Metered step l)
-    go true e = metered-reset h map m step l e
-    go false e =
-        let r = metered_rule h.state m step l in
         rw e (λ j. handed_back (hart_with r.state) (flipped (same_pmp h.state.pmp r.state.pmp) map (map_for r.state.pmp) j) r.answer)
 
 -- ---- from what the engine gave on the words of the state
@@ -84,7 +61,7 @@ module _ (h : Hart) (map : Map) (m : Memory) (step : Step) {held : Bool} (eh : h
   unfolding step_rule step_taken
   answer_is = ap (λ (x : Taken). x.answer) taken_is
 
-  remap_is : remaps h.state m (Unmetered step) ≡ t.remap
+  remap_is : remaps h.state m step ≡ t.remap
   unfolding step_rule step_taken
   remap_is = sym (ap (λ (x : Taken). x.remap) taken_is)
 
@@ -93,10 +70,10 @@ module _ (h : Hart) (map : Map) (m : Memory) (step : Step) {held : Bool} (eh : h
       (λ j. handed_back (hart_with (state_is j)) ((p ∙ (λ i. cond b (map_for (state_is i).pmp) map)) j) (answer_is j))
       ∙ ap (λ (c : Bool). handed_back (hart_with (step_rule h.state m step).state) (cond c (map_for (step_rule h.state m step).state.pmp) map) (step_rule h.state m step).answer)
       (sym (remap_is ∙ e))
-      ∙ sym (step_parts h map m (Unmetered step))
+      ∙ sym (step_parts h map m step)
 
   pub map-stays : not t.remap ≡ true → handed_back (hart_with s) map t.answer ≡ stepped h map m step
   map-stays n = by-remap false (not-true t.remap n) map refl
 
-  pub map-anew : not t.remap ≡ false → {fresh : Map} → fresh ≡ map_for s.pmp → handed_back (hart_with s) fresh t.answer ≡ stepped h map m step
-  map-anew n {fresh} e = by-remap true (not-false t.remap n) fresh e
+  pub map_anew : not t.remap ≡ false → {fresh : Map} → fresh ≡ map_for s.pmp → handed_back (hart_with s) fresh t.answer ≡ stepped h map m step
+  map_anew n {fresh} e = by-remap true (not-false t.remap n) fresh e

@@ -3,4 +3,3 @@ pub mod Steps
 pub mod Runs
 pub mod Queries
 pub mod Saved
-pub mod Metering

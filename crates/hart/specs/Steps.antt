@@ -1,6 +1,5 @@
 -- 01, "Steps", and 02, [8] and [9]: a step by a hart takes the state, its map and the memory lent to it, and hands state and map back.
 use Rattle.std.specs.Prelude.{ℕ, cond, List}
-use Rattle.std.proofs.Math.Option.{Option, some, none}
 use Rattle.steps.specs.declared.Step.{Step}
 use Rattle.steps.specs.declared.Answer.{Answer}
 use Rattle.steps.specs.declared.Answer.TheVariants.{Done, Refused}
@@ -13,15 +12,10 @@ use Rattle.state.specs.declared.State.{State}
 use Rattle.state.specs.Hold.{reset_state}
 use Rattle.map.specs.declared.Map.{Map}
 use Rattle.map.specs.Compiled.{compiled}
-use Rattle.ledger.specs.declared.Ledger.{Ledger}
-use Rattle.ledger.specs.declared.MeteredStep.{MeteredStep}
-use Rattle.ledger.specs.Given.{Given, Unmetered, Metered}
 use Rattle.engine.specs.Effects.{Effect, is_reset, step_rule}
-use Rattle.engine.specs.Metering.{metered_reset, metered_rule, ledger_rule}
 use Rattle.hart.specs.declared.Hart.{Hart}
 use Rattle.hart.specs.declared.Stepped.{Stepped}
 use Rattle.hart.specs.declared.Mapped.{Mapped}
-use Rattle.hart.specs.declared.Posted.{Posted}
 
 -- the map for protection registers
 abbrev pub map_for : Pmp → Map
@@ -55,21 +49,3 @@ stepped h map m step = cond (is_reset step) (reset_done h.state.pmp.grain) (with
 -- the number and values of its answer
 abbrev pub step_numbers : Hart → Map → Memory → Step → List ℕ
 step_numbers h map m step = answer_numbers (stepped h map m step).answer
-
--- ---- 02, [4]: with a ledger lent
-
--- what a step hands back, and the ledger that it leaves
-unfoldable pub posted : Hart → Map → Memory → MeteredStep → Ledger → Posted
-posted h map m step l = record {
-  stepped = cond (metered_reset step) (reset_done h.state.pmp.grain) (with_map h map (metered_rule h.state m step l));
-  ledger = ledger_rule h.state m step l;
-}
-
--- .. or with none
-abbrev pub stepped_by : Hart → Map → Memory → Given → Stepped
-stepped_by h map m (Unmetered step) = stepped h map m step
-stepped_by h map m (Metered step l) = (posted h map m step l).stepped
-
-abbrev pub ledger_by : Hart → Map → Memory → Given → Option Ledger
-ledger_by h map m (Unmetered step) = none
-ledger_by h map m (Metered step l) = some (posted h map m step l).ledger

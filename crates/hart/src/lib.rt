@@ -1,10 +1,8 @@
 // A hart: the state and the map of its protection registers go in, and both come back with the answer.
-use ledger::Ledger;
 use map::Map;
 use state::State;
 use steps::Answer;
 
-mod metering;
 mod query;
 mod saved;
 mod stepping;
@@ -24,13 +22,6 @@ pub struct Stepped {
     pub hart: Hart,
     pub map: Map,
     pub answer: Answer,
-}
-
-// What a step or a restore with a ledger lent hands back.
-#[derive(Drop)]
-pub struct Posted {
-    pub stepped: Stepped,
-    pub ledger: Ledger,
 }
 
 // A hart with a map.

@@ -10,7 +10,7 @@ use native.Mathlib.Nat.{add-zero, div-div-eq-div-mul, div-eq_of_lt, div-one}
 use lib.Dec.{ltb}
 use lib.Pow.{pow-add}
 use borrow.Author.Tests.{lt-ltb, le-ltb, ltb-true, ltb-false}
-use lib.ListN.{length, get_or, drop, drop_of_length-le, length-map, length-append}
+use lib.ListN.{length, get_or, drop, drop_of_length-le, length-map}
 use lib.Seq.{get_or-drop, drop-drop, drop-cons, drop-append_seam}
 use Rattle.lines.specs.Lines.{key_of, hex_digit, hex_digits, line_of, lines_of, digit_value, number_at, places_of, words_in, is_text}
 use Rattle.lines.proofs.Digits.{number_fits, value_below}
@@ -97,26 +97,6 @@ places_length : (ks : List String) (p : ℕ) → length (places_of ks p) ≡ len
 unfolding places_of
 places_length [] p = refl
 places_length (k ∷ ks) p = ap suc (places_length ks (p + length (key_of k) + 17))
-
--- words with words behind them
-append_below : (xs ys : List ℕ) → ((i : ℕ) → get_or xs i 0 < 2 ^ 64) → ((i : ℕ) → get_or ys i 0 < 2 ^ 64) → (i : ℕ) → get_or (xs ++ ys) i 0 < 2 ^ 64
-append_below [] ys h k i = k i
-append_below (x ∷ xs) ys h k zero = h 0
-append_below (x ∷ xs) ys h k (suc i) = append_below xs ys (λ j. h (suc j)) k i
-
-pub words_append : (m n : ℕ) (xs ys : List ℕ) → Words m xs → Words n ys → Words (m + n) (xs ++ ys)
-words_append m n xs ys v w = record {
-  count = length-append xs ys ∙ (λ j. v.count j + w.count j);
-  below = append_below xs ys v.below w.below;
-}
-
-pub two-words : (a b : ℕ) → a < 2 ^ 64 → b < 2 ^ 64 → Words 2 (a ∷ b ∷ [])
-two-words a b h k = record { count = refl; below = under }
-  where
-    under : (i : ℕ) → get_or (a ∷ b ∷ []) i 0 < 2 ^ 64
-    under zero = h
-    under (suc zero) = k
-    under (suc (suc i)) = omega arith
 
 -- ---- texts
 

@@ -138,13 +138,13 @@ module _ (spans : ℕ → Span) where
     parted = parted (owner_of spans) 17 0 rs l;
   }
 
-  start-opens : (rs : List Range) → Covers 0 rs → Owned (owner_of spans) rs → Opens 17 rs
-  start-opens [] c o = tt
-  start-opens (r ∷ rs) c o = λ e. omega (arith, o.0 r.first (omega arith) c.1, owner-bound spans r.first)
+  start_opens : (rs : List Range) → Covers 0 rs → Owned (owner_of spans) rs → Opens 17 rs
+  start_opens [] c o = tt
+  start_opens (r ∷ rs) c o = λ e. omega (arith, o.0 r.first (omega arith) c.1, owner-bound spans r.first)
 
   pub map-lawful : (rs : List Range) → IsMap spans rs → Lawful (owner_of spans) 17 0 rs
   map-lawful rs m =
-      lawful (owner_of spans) 17 0 rs (start-opens rs m.covers m.owned) m.covers m.parted m.owned
+      lawful (owner_of spans) 17 0 rs (start_opens rs m.covers m.owned) m.covers m.parted m.owned
 
   -- no two lists are the map of the same registers
   pub unique : (rs ss : List Range) → IsMap spans rs → IsMap spans ss → rs ≡ ss

@@ -77,10 +77,10 @@ ranges-room [] = omega arith
 ranges-room (count ∷ w) = omega (arith, ranges-count count w)
 
 -- the first of them, and those behind it
-pub ranges-next : (w : List ℕ) (left at : ℕ) → 0 < left → at + 3 ≤ length w
+pub ranges_next : (w : List ℕ) (left at : ℕ) → 0 < left → at + 3 ≤ length w
     → take left (ranges_of_words (drop at w))
     ≡ range (get_or w at 0) (get_or w (at + 1) 0) (get_or w (at + 2) 0) ∷ take (left - 1) (ranges_of_words (drop (at + 3) w))
-ranges-next w zero at h l = absurd (omega arith)
-ranges-next w (suc left) at h l =
+ranges_next w zero at h l = absurd (omega arith)
+ranges_next w (suc left) at h l =
     let n : suc left - 1 ≡ left = omega arith in
     rw (n, ranges-at w at l)

@@ -84,12 +84,12 @@ module _ (spans : ℕ → Span) (at : ℕ) (known : Normalized spans) where
         },
       )
 
-  last-run : (i end : ℕ) → i ≡ 16 → Free i end → Reached (range at (end - 1) i)
-  last-run i end h f = reached i end end (omega arith) f f.ahead (omega arith) (λ l. absurd (omega arith)) (not-owner i end f)
+  last_run : (i end : ℕ) → i ≡ 16 → Free i end → Reached (range at (end - 1) i)
+  last_run i end h f = reached i end end (omega arith) f f.ahead (omega arith) (λ l. absurd (omega arith)) (not-owner i end f)
 
-  owner-run : (i end : ℕ) → i < 16 → (spans i).low ≤ at → at < (spans i).high → Free i end → Reached (range at (min end (spans i).high - 1) i)
+  owner_run : (i end : ℕ) → i < 16 → (spans i).low ≤ at → at < (spans i).high → Free i end → Reached (range at (min end (spans i).high - 1) i)
   unfolding owner_of
-  owner-run i end h l k f =
+  owner_run i end h l k f =
       reached i end (min end (spans i).high) (omega arith) f (omega (arith, f.ahead)) (omega arith)
       (λ _ b x y. contains_inside (spans i) b (omega arith) (omega arith))
       (λ u e. go u e (less (spans i).high end))
@@ -135,27 +135,27 @@ module _ (spans : ℕ → Span) (at : ℕ) (known : Normalized spans) where
     closed = ⊎_elim (λ z. inl z) (λ z. inr (z.0, omega (arith, z.1), z.2)) f.closed;
   }
 
-  run-from : (n i end : ℕ) → i + n ≡ 16 → Free i end → Reached (range_from spans at n i end)
+  run_from : (n i end : ℕ) → i + n ≡ 16 → Free i end → Reached (range_from spans at n i end)
   unfolding range_from
-  run-from zero i end h f = last-run i end (omega arith) f
-  run-from (suc n) i end h f =
-      go (less at (spans i).low) (less at (spans i).high) (run-from n (suc i) (min end (spans i).low) (omega arith)) (run-from n (suc i) end (omega arith))
+  run_from zero i end h f = last_run i end (omega arith) f
+  run_from (suc n) i end h f =
+      go (less at (spans i).low) (less at (spans i).high) (run_from n (suc i) (min end (spans i).low) (omega arith)) (run_from n (suc i) end (omega arith))
     where
       go : (at < (spans i).low) ⊎ ((spans i).low ≤ at) → (at < (spans i).high) ⊎ ((spans i).high ≤ at)
           → (Free (suc i) (min end (spans i).low) → Reached (range_from spans at n (suc i) (min end (spans i).low)))
           → (Free (suc i) end → Reached (range_from spans at n (suc i) end))
           → Reached (range_from spans at (suc n) i end)
       go (inl x) y a b = rw (lt-ltb at (spans i).low x) (a (later_free i end (omega arith) x f))
-      go (inr x) (inl y) a b = rw (le-ltb at (spans i).low x, lt-ltb at (spans i).high y) (owner-run i end (omega arith) x y f)
+      go (inr x) (inl y) a b = rw (le-ltb at (spans i).low x, lt-ltb at (spans i).high y) (owner_run i end (omega arith) x y f)
       go (inr x) (inr y) a b = rw (le-ltb at (spans i).low x, le-ltb at (spans i).high y) (b (past_free i end y f))
 
-  pub range-run : at < top → Reached (range_from spans at 16 0 top)
-  range-run h =
-      run-from 16 0 top refl
+  pub range_run : at < top → Reached (range_from spans at 16 0 top)
+  range_run h =
+      run_from 16 0 top refl
       (record { ahead = h; bound = omega arith; free = λ k b u x y. absurd (omega arith); closed = inl refl })
 
   -- it holds the byte and lies in memory
   pub range_bounds : (r : Range) → at < top → r ≡ range_from spans at 16 0 top → (at ≤ r.last) × (r.last < top)
   range_bounds r h e =
-      let t = range-run h in
+      let t = range_run h in
       subst (λ (x : Range). (at ≤ x.last) × (x.last < top)) (sym e) (omega (arith, t.0, t.1.some), t.1.below)

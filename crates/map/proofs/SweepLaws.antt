@@ -17,7 +17,7 @@ use Rattle.map.specs.Compiled.{padding, map_of}
 use Rattle.map.specs.Sweep.{normalized, Normalized, spans_in, range_from}
 use Rattle.map.proofs.Lawful.{less, Lawful, head_run, same_run, from-bound}
 use Rattle.map.proofs.Painting.{Short, painted-lawful, painted_same}
-use Rattle.map.proofs.RangeFromLaws.{Reached, range-run}
+use Rattle.map.proofs.RangeFromLaws.{Reached, range_run}
 
 -- ---- the ranges one after another: those found, in the array's first places, and those left, which start at the next byte
 
@@ -65,7 +65,7 @@ module _ (spans : ℕ → Span) (known : Normalized spans) where
     swept_next r s h e = go s.left s.lawful s.whole (bound s)
       where
         run : Reached spans at known r
-        run = subst (Reached spans at known) (sym e) (range-run spans at known h)
+        run = subst (Reached spans at known) (sym e) (range_run spans at known h)
 
         go : (left : List Range) → Lawful (owner_of spans) s.before at left → painted spans 16 ≡ s.done ++ left → count + length left ≤ 33
             → Swept spans (set ranges count r) (count + 1) (r.last + 1)

@@ -30,9 +30,9 @@ unfolding keys bytes_of lines_length
 keys_length n = omega (arith, words-length n)
 
 -- a text in the form has a line of 22 bytes for the base and each word
-pub text-sized : (t : List ℕ) → is_memory_text t ≡ true → (length t ≡ 22 * word_count t + 22) × (word_count t ≤ most_words)
+pub text_sized : (t : List ℕ) → is_memory_text t ≡ true → (length t ≡ 22 * word_count t + 22) × (word_count t ≤ most_words)
 unfolding is_memory_text
-text-sized t e =
+text_sized t e =
     let ks = keys (word_count t) in
     let b = both (leb (word_count t) most_words) (is_text ks t) e in
     (ap length (text-only ks t b.1) ∙ lines-length ks 0 (words_in ks t) ∙ keys_length (word_count t), leb-true (word_count t) most_words b.0)

@@ -16,7 +16,7 @@ use Rattle.lines.proofs.Back.{text-only, words_found, words_back, is_text_lem}
 use Rattle.lines.proofs.Reading.{lines-length}
 use Rattle.memory_text.specs.MemoryText.{keys, text_of, word_count, most_words, is_memory_text, base_in, memory_in, is_taken, read_as, no_memory, read_memory, stored_in}
 use Rattle.memory_text.specs.RoundTrip.{IsMemory, RoundTrip}
-use Rattle.memory_text.proofs.Form.{keys_length, text-sized, memory-length}
+use Rattle.memory_text.proofs.Form.{keys_length, text_sized, memory-length}
 
 keys-count : (n : ℕ) → length (keys n) ≡ suc n
 unfolding keys
@@ -63,7 +63,7 @@ module _ (t : List ℕ) where
   is_memory e =
       let w = words_found (keys (word_count t)) t in
       let b : (i : ℕ) → get_or (base_in t ∷ memory_in t) i 0 < 2 ^ 64 = rw found_parts at w.below in
-      record { first = b 0; most = omega (arith, memory-length t, (text-sized t e).1); below = λ i. b (suc i) }
+      record { first = b 0; most = omega (arith, memory-length t, (text_sized t e).1); below = λ i. b (suc i) }
 
 one_text : (t u : List ℕ) → is_memory_text t ≡ true → is_memory_text u ≡ true → base_in t ≡ base_in u → memory_in t ≡ memory_in u → t ≡ u
 one_text t u p q b w = text_again t p ∙ (λ j. text_of (b j) (w j)) ∙ sym (text_again u q)

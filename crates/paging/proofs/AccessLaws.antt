@@ -74,10 +74,10 @@ module _ (p : Pmp) (m : Memory) (c : Context) (address size : ℕ) where
         go (suc l) z v h = absurd (omega arith)
 
     -- the check of a table read
-    pub check-reads : (below : ℕ) (x : Word) → levels ≡ suc below → read_by d (word_at m k.place) ≡ x
+    pub check_reads : (below : ℕ) (x : Word) → levels ≡ suc below → read_by d (word_at m k.place) ≡ x
         → arrived p m c address size (onward (walk_from p m c address below) (word_says c address below x)) ≡ whole
     unfolding walk_from found_at table_read
-    check-reads below x s q = go levels s w decides (ap (λ (y : Check). y.place) asked)
+    check_reads below x s q = go levels s w decides (ap (λ (y : Check). y.place) asked)
       where
         go : (l : ℕ) → l ≡ suc below → stage l place ≡ whole
             → byte_rule (spans_of p) p.cfgs (next_check c address size l place).mode
@@ -101,7 +101,7 @@ module _ (p : Pmp) (m : Memory) (c : Context) (address size : ℕ) where
       where
         go : (l : ℕ) → levels ≡ l → Fault (fault_cause c.access) address entry ≡ whole
         go zero z = sym held ∙ sym (denied_rule c.access address d (answers z)) ∙ check_ends z
-        go (suc l) z = check-reads l (Denied entry) z (reads (word_at m k.place))
+        go (suc l) z = check_reads l (Denied entry) z (reads (word_at m k.place))
 
   -- the walk from a level on
   pub stage_on : (level table : ℕ) → (level ≡ 0 → ⊥) → arrived p m c address size (walk_from p m c address level table) ≡ stage level table

@@ -16,8 +16,8 @@ use Rattle.paging.specs.Walk.{canonical, entry_address, walk_from, walked, asked
 
 -- ---- the pages below an entry
 
-pub pages-two : (level : ℕ) → (level ≡ 0 → ⊥) → (level ≡ 1 → ⊥) → level < 3 → pages level ≡ 0x40000
-pages-two level p q h = let e : level ≡ 2 = omega arith in rw e
+pub pages_two : (level : ℕ) → (level ≡ 0 → ⊥) → (level ≡ 1 → ⊥) → level < 3 → pages level ≡ 0x40000
+pages_two level p q h = let e : level ≡ 2 = omega arith in rw e
 
 pub pages_bounds : (level : ℕ) → level < 3 → (0 < pages level) × (pages level ≤ 0x40000)
 pages_bounds zero h = omega arith
@@ -73,14 +73,14 @@ entry-aligned table level address = multiple (table % 2 ^ 44) (address / (4096 *
 -- ---- what the byte rule is asked next
 
 module _ (c : Context) (address size : ℕ) where
-  pub check-last : (levels place : ℕ) → levels ≡ 0
+  pub check_last : (levels place : ℕ) → levels ≡ 0
       → asked c.mode c.access place size ≡ next_check c address size levels place
-  check-last levels place e = rw e
+  check_last levels place e = rw e
 
-  pub check-read : (levels table : ℕ) → (levels ≡ 0 → ⊥)
+  pub check_read : (levels table : ℕ) → (levels ≡ 0 → ⊥)
       → asked Supervisor Load (entry_address table (levels - 1) address) 8 ≡ next_check c address size levels table
-  check-read zero table n = absurd (n refl)
-  check-read (suc level) table n = let e : suc level - 1 ≡ level = omega arith in rw e
+  check_read zero table n = absurd (n refl)
+  check_read (suc level) table n = let e : suc level - 1 ≡ level = omega arith in rw e
 
 -- ---- where a walk goes
 

@@ -73,8 +73,8 @@ module _ (test : ℕ → Bool) (n i : ℕ) where
       let e : n - i ≡ suc (n - (i + 1)) = omega arith in
       rw (e, add-one i)
 
-  pub lowest-next : i < n → test i ≡ false → lowest test (n - i) i ≡ lowest test (n - (i + 1)) (i + 1)
-  lowest-next h e = lowest_step h ∙ ap (λ (b : Bool). cond b i (lowest test (n - (i + 1)) (i + 1))) e
+  pub lowest_next : i < n → test i ≡ false → lowest test (n - i) i ≡ lowest test (n - (i + 1)) (i + 1)
+  lowest_next h e = lowest_step h ∙ ap (λ (b : Bool). cond b i (lowest test (n - (i + 1)) (i + 1))) e
 
   pub lowest_found : i < n → test i ≡ true → lowest test (n - i) i ≡ i
   lowest_found h e = lowest_step h ∙ ap (λ (b : Bool). cond b i (lowest test (n - (i + 1)) (i + 1))) e

@@ -8,7 +8,8 @@ use Rattle.lines.specs.Lines.{bytes_of, key_of, lines_length}
 use Rattle.lines.specs.Fields.{line_at, lines_at, all_ok, words_read}
 use Rattle.lines.proofs.Reading.{text_judged, words_judged, not-text}
 use Rattle.records.specs.declared.Record.TheVariants.{Words, Broken}
-use Rattle.records.specs.Records.{keys, read_record, read_numbers}
+use Rattle.steps.specs.declared.Decoded.TheVariants.{Nothing}
+use Rattle.records.specs.Records.{keys, read_record, record_step, read_step}
 
 record_length : lines_length keys ≡ 60
 unfolding keys bytes_of lines_length
@@ -33,6 +34,6 @@ unfolding read_record
 record_short t h = rw (not-text t keys (λ e. h (e ∙ record_length)))
 
 -- and names no step
-pub numbers-short : (t : List ℕ) → (length t ≡ 60 → ⊥) → Broken ≡ read_numbers t
-unfolding read_numbers
-numbers-short t h = rw (sym (record_short t h))
+pub step-short : (t : List ℕ) → (length t ≡ 60 → ⊥) → Nothing ≡ read_step t
+unfolding read_step record_step
+step-short t h = ap record_step (record_short t h)

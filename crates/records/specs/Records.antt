@@ -1,7 +1,10 @@
 -- A trace's records: three lines, `step=`, `a=`, `b=`, each with 16 lower-case hexadecimal digits and a line feed; unused arguments are 0.
-use Rattle.std.specs.Prelude.{ℕ, Bool, false, cond, ◌&&◌, ◌||◌, not, List, [], ◌∷◌, leb, eqb, get_or}
+use Rattle.std.specs.Prelude.{ℕ, Bool, cond, ◌&&◌, ◌||◌, not, List, [], ◌∷◌, leb, eqb, get_or}
 use Prim.Native.String.{String}
 use Rattle.lines.specs.Lines.{lines_of, words_in, is_text}
+use Rattle.steps.specs.declared.Decoded.{Decoded}
+use Rattle.steps.specs.declared.Decoded.TheVariants.{Formed, Nothing}
+use Rattle.steps.specs.Decode.{decoded}
 use Rattle.records.specs.declared.Record.{Record}
 use Rattle.records.specs.declared.Record.TheVariants.{Words, Broken}
 
@@ -31,11 +34,20 @@ ignores_second step = ((ignores_first step || eqb step 4) || eqb step 6) || eqb 
 unfoldable pub unused_are_zero : ℕ → ℕ → ℕ → Bool
 unused_are_zero step a b = (not (ignores_first step) || eqb a 0) && (not (ignores_second step) || eqb b 0)
 
--- unused arguments are 0, and no number is above 18. Step 18 is passed on (02, [4]): with no ledger lent the reader refuses it by 8
-abbrev pub names_step : Record → Bool
-names_step (Words step a b) = unused_are_zero step a b && leb step 18
-names_step Broken = false
+-- the step that a record names; a number above 17 names none
+unfoldable pub record_step : Record → Decoded
+record_step (Words step a b) = cond (unused_are_zero step a b) (decoded step a b) Nothing
+record_step Broken = Nothing
+
+-- the step of a record's text; none is refusal 8
+unfoldable pub read_step : List ℕ → Decoded
+read_step t = record_step (read_record t)
+
+-- the record again, if it names a step
+abbrev pub naming : Record → Decoded → Record
+naming r (Formed step) = r
+naming r Nothing = Broken
 
 -- the numbers of a record that names a step
 unfoldable pub read_numbers : List ℕ → Record
-read_numbers t = cond (names_step (read_record t)) (read_record t) Broken
+read_numbers t = naming (read_record t) (read_step t)

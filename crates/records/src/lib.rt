@@ -1,6 +1,8 @@
 // Records of a trace: the text of a step.
 ghost use Rattle.std.specs.Prelude.{◌≡◌};
-ghost use Rattle.records.specs.Records.{read_record, ignores_first, ignores_second, unused_are_zero, names_step, read_numbers};
+ghost use Rattle.records.specs.Records.{read_record, ignores_first, ignores_second, unused_are_zero, record_step, naming, read_numbers};
+
+use steps::Decoded;
 
 // The three words of a record.
 #[derive(Drop)]
@@ -44,13 +46,29 @@ fn unused_are_zero(step: u64, a: u64, b: u64) -> bool
     (!ignores_first(step) | (a == 0)) & (!ignores_second(step) | (b == 0))
 }
 
-// Whether the words of a record name a step: its unused arguments are 0, and its number is not above 18.
-fn names_step(record: Record) -> bool
-    ensures { result ≡ names_step «record» }
+// The step that the words of a record name, if its unused arguments are 0.
+fn record_step(record: Record) -> Decoded
+    ensures { result ≡ record_step «record» }
 {
     match record {
-        Record::Words(step, a, b) => unused_are_zero(step, a, b) & (step <= 18),
-        Record::Broken => false,
+        Record::Words(step, a, b) => {
+            if unused_are_zero(step, a, b) {
+                steps::decode(step, a, b)
+            } else {
+                Decoded::Nothing
+            }
+        }
+        Record::Broken => Decoded::Nothing,
+    }
+}
+
+// The record again, if it names a step.
+fn naming(record: Record, decoded: Decoded) -> Record
+    ensures { result ≡ naming «record» decoded }
+{
+    match decoded {
+        Decoded::Formed(_) => record,
+        Decoded::Nothing => Record::Broken,
     }
 }
 
@@ -59,9 +77,5 @@ pub fn read_numbers(text: &[u8]) -> Record
     ensures { result ≡ read_numbers text.now }
 {
     let words = read_record(text);
-    if names_step(words) {
-        words
-    } else {
-        Record::Broken
-    }
+    naming(words, record_step(words))
 }

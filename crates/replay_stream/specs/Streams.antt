@@ -1,13 +1,10 @@
--- What is promised of a stream, metered or not, whatever is read from it: there are pieces, fed in order from the start that was asked for, each with the memory
--- lent, that leave the session handed back.
+-- What is promised of a stream, whatever is read from it: there are pieces, fed in order from the start that was asked for, each with the memory lent, that
+-- leave the session handed back.
 use Rattle.std.specs.Prelude.{ℕ, ◌+◌, ◌-◌, ◌^◌, ◌≡◌, Bool, true, false, cond, ◌&&◌, List, [], eqb, length, get_or}
 use Rattle.paging.specs.Memory.{Memory, memory_at}
 use Rattle.memory_text.specs.MemoryText.{is_memory_text, base_in, memory_in}
-use Rattle.ledger.specs.declared.Ledger.{Ledger}
-use Rattle.ledger.specs.Rules.{new_ledger}
-use Rattle.ledger_text.specs.LedgerText.{is_ledger_text, ledger_of_text}
 use Rattle.trace.specs.declared.Session.{Session}
-use Rattle.trace.specs.Sessions.{after_piece, after_pieces, reset_session, text_session, with_ledger}
+use Rattle.trace.specs.Sessions.{after_piece, after_pieces, reset_session, text_session}
 use Rattle.replay_stream.specs.declared.Stream.{Stream}
 
 -- the pieces are counted down from here, so that every reading ends
@@ -15,20 +12,20 @@ abbrev pub most_pieces : ℕ
 most_pieces = 2 ^ 64 - 1
 
 -- one piece: it is fed, or reading or writing failed and the session stays
-pub record OnePiece (metered : Bool) (m : Memory) (before : Session) (r : Stream) : Type 0 where
+pub record OnePiece (m : Memory) (before : Session) (r : Stream) : Type 0 where
   pub piece : List ℕ
-  pub session : r.session ≡ cond r.failed before (after_piece metered m before piece)
+  pub session : r.session ≡ cond r.failed before (after_piece m before piece)
 
 -- the pieces so far, with so many turns left
-pub record Going (metered : Bool) (m : Memory) (start here : Session) (turns : ℕ) : Type 0 where
+pub record Going (m : Memory) (start here : Session) (turns : ℕ) : Type 0 where
   pub pieces : List (List ℕ)
-  pub session : here ≡ after_pieces metered m start pieces
+  pub session : here ≡ after_pieces m start pieces
   pub count : length pieces + turns ≡ most_pieces
 
 -- unless reading or writing failed, the session has ended, or as many pieces as are counted have been fed
-pub record Streamed (metered : Bool) (m : Memory) (start : Session) (r : Stream) : Type 0 where
+pub record Streamed (m : Memory) (start : Session) (r : Stream) : Type 0 where
   pub pieces : List (List ℕ)
-  pub session : r.session ≡ after_pieces metered m start pieces
+  pub session : r.session ≡ after_pieces m start pieces
   pub ended : r.failed ≡ false → r.session.more ≡ true → length pieces ≡ most_pieces
 
 -- ---- files
@@ -40,7 +37,7 @@ pub record Begun (r : Stream) : Type 0 where
 
 pub record FromFile (m : Memory) (r : Stream) : Type 0 where
   pub text : List ℕ
-  pub streamed : Streamed false m (text_session text) r
+  pub streamed : Streamed m (text_session text) r
 
 -- the name `-`, which stands for no file
 unfoldable pub is_none : List ℕ → Bool
@@ -50,10 +47,6 @@ is_none name = eqb (length name) 1 && eqb (get_or name 0 0) 45
 abbrev pub start_named : List ℕ → List ℕ → Session
 start_named name text = cond (is_none name) reset_session (text_session text)
 
-pub record Named (name : List ℕ) (r : Stream) : Type 0 where
-  pub text : List ℕ
-  pub session : r.session ≡ start_named name text
-
 -- 02, [8]: the memory of a text; the name MEMORY stands for no words at address 0, or for the memory of its text
 abbrev pub memory_of : List ℕ → Memory
 memory_of text = memory_at (memory_in text) (base_in text)
@@ -62,30 +55,11 @@ abbrev pub memory_named : List ℕ → List ℕ → Memory
 memory_named name text = cond (is_none name) (memory_at [] 0) (memory_of text)
 
 -- what is lent is given by some text in the form
-pub record Lending (metered : Bool) (given : List ℕ → Memory) (start : Session) (r : Stream) : Type 0 where
+pub record Lending (given : List ℕ → Memory) (start : Session) (r : Stream) : Type 0 where
   pub text : List ℕ
   pub formed : is_memory_text text ≡ true
-  pub streamed : Streamed metered (given text) start r
+  pub streamed : Streamed (given text) start r
 
 pub record FromPaths (start memory : List ℕ) (r : Stream) : Type 0 where
   pub text : List ℕ
-  pub lending : Lending false (memory_named memory) (start_named start text) r
-
--- ---- 02, [4]: with a ledger lent
-
--- the name LEDGER stands for a new ledger, or for the ledger of its text
-abbrev pub ledger_named : List ℕ → List ℕ → Ledger
-ledger_named name text = cond (is_none name) new_ledger (ledger_of_text text)
-
--- a session with the ledger that is given by some text in the form
-pub record WithLedger (given : List ℕ → Ledger) (start : Session) (r : Stream) : Type 0 where
-  pub lines : List ℕ
-  pub formed : is_ledger_text lines ≡ true
-  pub session : r.session ≡ with_ledger start (given lines)
-
--- START is read with no ledger lent; LEDGER is lent to the records as it is
-pub record MeteredFromPaths (start ledger memory : List ℕ) (r : Stream) : Type 0 where
-  pub text : List ℕ
-  pub lines : List ℕ
-  pub formed : is_ledger_text lines ≡ true
-  pub lending : Lending true (memory_named memory) (with_ledger (start_named start text) (ledger_named ledger lines)) r
+  pub lending : Lending (memory_named memory) (start_named start text) r

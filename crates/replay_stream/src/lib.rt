@@ -1,11 +1,10 @@
-// Replays a trace from a descriptor to standard output, metered or not, in constant memory. What goes on from piece to piece is said in `trace`: here is the
+// Replays a trace from a descriptor to standard output, in constant memory. What goes on from piece to piece is said in `trace`: here is the
 // reading and the writing alone.
-ghost use Rattle.std.specs.Prelude.{◌≡◌, true, false};
+ghost use Rattle.std.specs.Prelude.{◌≡◌};
 ghost use Rattle.paging.specs.Memory.{memory_at};
 ghost use Rattle.trace.specs.Sessions.{reset_session, text_session};
-ghost use Rattle.ledger_text.specs.LedgerText.{ledger_of_text};
-ghost use Rattle.replay_stream.specs.Streams.{is_none, memory_of, memory_named, ledger_named, Lending, WithLedger, FromPaths, MeteredFromPaths};
-ghost use Rattle.replay_stream.specs.Streams.{OnePiece, Streamed, Begun, Named, FromFile};
+ghost use Rattle.replay_stream.specs.Streams.{is_none, memory_of, memory_named, Lending, FromPaths};
+ghost use Rattle.replay_stream.specs.Streams.{OnePiece, Streamed, Begun, FromFile};
 
 use libc::STDERR_FILENO;
 use trace::Session;
@@ -19,7 +18,6 @@ pub struct Stream {
 
 // Reads a piece, feeds it and writes its lines. A failure leaves the session as it was.
 fn piece(
-    metered: bool,
     memory: &[u64],
     base: u64,
     fd: i32,
@@ -27,7 +25,7 @@ fn piece(
     out: &mut [u8; 65600],
     session: Session,
 ) -> Stream
-    ensures { OnePiece metered (memory_at memory.now base) session result }
+    ensures { OnePiece (memory_at memory.now base) session result }
 {
     let came = streams::fill(fd, input);
     if came.failed {
@@ -39,7 +37,7 @@ fn piece(
     }
     let count = came.count;
     let bytes = &input[..];
-    let fed = session.feed(metered, memory, base, &bytes[0..count], out);
+    let fed = session.feed(memory, base, &bytes[0..count], out);
     let next = fed.session;
     let filled = fed.filled;
     let lines = &out[..];
@@ -58,7 +56,6 @@ fn piece(
 
 // Feeds piece after piece until the session has ended, and writes its ending.
 fn pieces(
-    metered: bool,
     memory: &[u64],
     base: u64,
     fd: i32,
@@ -66,19 +63,19 @@ fn pieces(
     out: &mut [u8; 65600],
     start: Session,
 ) -> Stream
-    ensures { Streamed metered (memory_at memory.now base) start result }
+    ensures { Streamed (memory_at memory.now base) start result }
 {
     let mut session = start;
     let mut turns = u64::MAX;
     while 0 < turns && session.more {
         turns -= 1;
-        let next = piece(metered, memory, base, fd, input, out, session);
+        let next = piece(memory, base, fd, input, out, session);
         if next.failed {
             return next;
         }
         session = next.session;
     }
-    let filled = session.finish(metered, out);
+    let filled = session.finish(out);
     let lines = &out[..];
     let wrote = streams::write(&lines[0..filled]);
     Stream {
@@ -87,26 +84,26 @@ fn pieces(
     }
 }
 
-fn replay(metered: bool, memory: &[u64], base: u64, fd: i32, start: Session) -> Stream
-    ensures { Streamed metered (memory_at memory.now base) start result }
+fn replay(memory: &[u64], base: u64, fd: i32, start: Session) -> Stream
+    ensures { Streamed (memory_at memory.now base) start result }
 {
     let mut input = [0u8; 61440];
     let mut out = [0u8; 65600];
-    pieces(metered, memory, base, fd, &mut input, &mut out, start)
+    pieces(memory, base, fd, &mut input, &mut out, start)
 }
 
 // Replays the records of a descriptor from reset, with the words of a memory at an address lent to each.
 pub fn from_reset(memory: &[u64], base: u64, fd: i32) -> Stream
-    ensures { Streamed false (memory_at memory.now base) reset_session result }
+    ensures { Streamed (memory_at memory.now base) reset_session result }
 {
-    replay(false, memory, base, fd, Session::from_reset())
+    replay(memory, base, fd, Session::from_reset())
 }
 
 // Replays them from a saved text in either form. A refused text is told, and no record is read.
 pub fn from_text(memory: &[u64], base: u64, text: &[u8], fd: i32) -> Stream
-    ensures { Streamed false (memory_at memory.now base) (text_session text.now) result }
+    ensures { Streamed (memory_at memory.now base) (text_session text.now) result }
 {
-    replay(false, memory, base, fd, Session::from_text(text))
+    replay(memory, base, fd, Session::from_text(text))
 }
 
 // A file that cannot be read is told, and nothing is written.
@@ -150,7 +147,7 @@ pub fn from_file(memory: &[u64], base: u64, path: &[u8], fd: i32) -> Stream
     if begun.failed {
         return begun;
     }
-    replay(false, memory, base, fd, begun.session)
+    replay(memory, base, fd, begun.session)
 }
 
 // Whether a name is `-`, which stands for no file.
@@ -165,14 +162,13 @@ fn is_none(name: &[u8]) -> bool
 
 // A MEMORY that cannot be read or is not in the form is told, and nothing is written.
 fn lend_read(
-    metered: bool,
     text: &mut [u8; 1441815],
     words: &mut [u64; 65536],
     path: &[u8],
     fd: i32,
     start: Session,
 ) -> Stream
-    ensures { Lending metered memory_of start result }
+    ensures { Lending memory_of start result }
 {
     let unlent = Stream {
         session: start,
@@ -200,119 +196,41 @@ fn lend_read(
     }
     let lent = reading.count;
     let memory = &words[..];
-    replay(metered, &memory[0..lent], reading.base, fd, start)
+    replay(&memory[0..lent], reading.base, fd, start)
 }
 
 // Replays them with the memory in a file. One byte more than a text of 65,536 words has is enough to see that the file is too long.
-fn lend_file(metered: bool, path: &[u8], fd: i32, start: Session) -> Stream
-    ensures { Lending metered memory_of start result }
+fn lend_file(path: &[u8], fd: i32, start: Session) -> Stream
+    ensures { Lending memory_of start result }
 {
     let mut text = [0u8; 1441815];
     let mut words = [0u64; 65536];
-    lend_read(metered, &mut text, &mut words, path, fd, start)
+    lend_read(&mut text, &mut words, path, fd, start)
 }
 
 // Replays them with the memory that a name stands for. It is not looked at behind a refused text.
-fn lend(metered: bool, path: &[u8], fd: i32, start: Session) -> Stream
-    ensures { Lending metered (memory_named path.now) start result }
+fn lend(path: &[u8], fd: i32, start: Session) -> Stream
+    ensures { Lending (memory_named path.now) start result }
 {
     if !start.more {
-        return replay(metered, &[], 0, fd, start);
+        return replay(&[], 0, fd, start);
     }
     if is_none(path) {
-        return replay(metered, &[], 0, fd, start);
+        return replay(&[], 0, fd, start);
     }
-    lend_file(metered, path, fd, start)
-}
-
-// The session that START stands for: from reset, or from the saved text in a file.
-fn begin_named(name: &[u8]) -> Stream
-    ensures { Named name.now result }
-{
-    if is_none(name) {
-        return Stream {
-            session: Session::from_reset(),
-            failed: false,
-        };
-    }
-    begin(name)
+    lend_file(path, fd, start)
 }
 
 // Replays them from START with MEMORY, either of them the name of a file or `-`. START is judged first.
 pub fn from_paths(start: &[u8], memory: &[u8], fd: i32) -> Stream
     ensures { FromPaths start.now memory.now result }
 {
-    let begun = begin_named(start);
+    if is_none(start) {
+        return lend(memory, fd, Session::from_reset());
+    }
+    let begun = begin(start);
     if begun.failed {
         return begun;
     }
-    lend(false, memory, fd, begun.session)
-}
-
-// A session with the ledger in a file. One that cannot be read or is not in the form is told. One byte more than a text has is enough to see that the file
-// is too long.
-fn read_ledger(path: &[u8], start: Session) -> Stream
-    ensures { WithLedger ledger_of_text start result }
-{
-    let unread = Stream {
-        session: start.with_ledger(ledger::new()),
-        failed: true,
-    };
-    let file = os::open_read(path);
-    if file < 0 {
-        os::fail(path);
-        return unread;
-    }
-    let mut text = [0u8; 296];
-    let came = streams::fill(file, &mut text);
-    if came.failed {
-        os::fail(path);
-        libc::close(file);
-        return unread;
-    }
-    libc::close(file);
-    let count = came.count;
-    let reading = ledger_text::read(&text[0..count]);
-    if !reading.ok {
-        io::write_all(STDERR_FILENO, path);
-        io::write_all(STDERR_FILENO, b": not in the form of a ledger text\n");
-        return unread;
-    }
-    let ledger = reading.ledger;
-    Stream {
-        session: start.with_ledger(ledger),
-        failed: false,
-    }
-}
-
-// A session with the ledger that LEDGER stands for, a new one for `-`. It is not looked at behind a refused text.
-fn lend_ledger(name: &[u8], start: Session) -> Stream
-    ensures { WithLedger (ledger_named name.now) start result }
-{
-    let fresh = Stream {
-        session: start.with_ledger(ledger::new()),
-        failed: false,
-    };
-    if !start.more {
-        return fresh;
-    }
-    if is_none(name) {
-        return fresh;
-    }
-    read_ledger(name, start)
-}
-
-// Meters them from START with LEDGER and MEMORY, each of them the name of a file or `-`, judged in this order.
-pub fn metered_from_paths(start: &[u8], ledger: &[u8], memory: &[u8], fd: i32) -> Stream
-    ensures { MeteredFromPaths start.now ledger.now memory.now result }
-{
-    let begun = begin_named(start);
-    if begun.failed {
-        return begun;
-    }
-    let lent = lend_ledger(ledger, begun.session);
-    if lent.failed {
-        return lent;
-    }
-    lend(true, memory, fd, lent.session)
+    lend(memory, fd, begun.session)
 }

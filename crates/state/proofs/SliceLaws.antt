@@ -58,10 +58,10 @@ registers_spelt : (r : Registers) (w : List ℕ)
 unfolding elements
 registers_spelt r w = refl
 
-pmp-spelt : (p : Pmp) (w : List ℕ) → Arrays p
+pmp_spelt : (p : Pmp) (w : List ℕ) → Arrays p
     → state_of (sets (set (elements 43 0 w) 42 p.grain) 23 (pmp_words p)) ≡ record { registers = registers_of (elements 43 0 w); pmp = p; satp = get_or (elements 43 0 w) 41 0 }
 unfolding elements
-pmp-spelt p w t =
+pmp_spelt p w t =
     λ j.
     record {
       registers = registers_of (elements 43 0 w);
@@ -69,19 +69,19 @@ pmp-spelt p w t =
       satp = get_or (elements 43 0 w) 41 0;
     }
 
-satp-spelt : (satp : ℕ) (w : List ℕ)
+satp_spelt : (satp : ℕ) (w : List ℕ)
     → state_of (set (elements 43 0 w) 41 satp) ≡ record { registers = registers_of (elements 43 0 w); pmp = pmp_of (elements 43 0 w); satp = satp }
 unfolding elements
-satp-spelt satp w = refl
+satp_spelt satp w = refl
 
 front_spelt : (w : List ℕ) → elements 43 0 w ≡ register_words (registers_of (elements 43 0 w)) ++ drop 23 (elements 43 0 w)
 unfolding elements
 front_spelt w = refl
 
-all-spelt : (s : State) (w : List ℕ)
+all_spelt : (s : State) (w : List ℕ)
     → set (sets (set (sets (elements 43 0 w) 0 (register_words s.registers)) 42 s.pmp.grain) 23 (pmp_words s.pmp)) 41 s.satp ≡ words_of s
 unfolding words_of elements
-all-spelt s w = refl
+all_spelt s w = refl
 
 module _ (w : List ℕ) (fit : length w ≡ 43) where
   -- the state of words whose registers were written
@@ -94,13 +94,13 @@ module _ (w : List ℕ) (fit : length w ≡ 43) where
   pub pmp-stored : (p : Pmp) → Arrays p → state_of (stored_pmp p w) ≡ record { registers = registers_of w; pmp = p; satp = get_or w 41 0 }
   pmp-stored p t =
       ap state_of (pmp-put w fit p)
-      ∙ subst (λ (v : List ℕ). state_of (sets (set v 42 p.grain) 23 (pmp_words p)) ≡ record { registers = registers_of v; pmp = p; satp = get_or v 41 0 }) (sym (spelt w fit)) (pmp-spelt p w t)
+      ∙ subst (λ (v : List ℕ). state_of (sets (set v 42 p.grain) 23 (pmp_words p)) ≡ record { registers = registers_of v; pmp = p; satp = get_or v 41 0 }) (sym (spelt w fit)) (pmp_spelt p w t)
 
   -- the state of words whose satp was written
   pub satp-stored : (satp : ℕ) → state_of (stored_satp satp w) ≡ record { registers = registers_of w; pmp = pmp_of w; satp = satp }
   satp-stored satp =
       ap state_of (satp-put w fit satp)
-      ∙ subst (λ (v : List ℕ). state_of (set v 41 satp) ≡ record { registers = registers_of v; pmp = pmp_of v; satp = satp }) (sym (spelt w fit)) (satp-spelt satp w)
+      ∙ subst (λ (v : List ℕ). state_of (set v 41 satp) ≡ record { registers = registers_of v; pmp = pmp_of v; satp = satp }) (sym (spelt w fit)) (satp_spelt satp w)
 
   pub registers_length : (r : Registers) → length (stored_registers r w) ≡ 43
   registers_length r = ap length (registers_put w fit r) ∙ length-sets w 0 (register_words r) ∙ fit
@@ -120,7 +120,7 @@ module _ (w : List ℕ) (fit : length w ≡ 43) where
       ∙ ap (λ (v : List ℕ). set v 41 s.satp) (pmp-put r (registers_length w fit s.registers) s.pmp)
       ∙ ap (λ (v : List ℕ). set (sets (set v 42 s.pmp.grain) 23 (pmp_words s.pmp)) 41 s.satp) (registers_put w fit s.registers)
       ∙ subst (λ (v : List ℕ). set (sets (set (sets v 0 (register_words s.registers)) 42 s.pmp.grain) 23 (pmp_words s.pmp)) 41 s.satp ≡ words_of s) (sym (spelt w fit))
-      (all-spelt s w)
+      (all_spelt s w)
 
   -- ---- one word
 

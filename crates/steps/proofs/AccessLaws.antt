@@ -39,5 +39,5 @@ number_access n a b =
     else_access n 14 _ _ refl (λ x. else_access n 15 _ _ refl (λ y. else_access n 16 _ _ refl (λ z. else_access n 17 _ _ refl (λ _.
     outside n x y z))))))))))))))))))
 
-pub access_number_lem : (n a b : ℕ) {s : Step} → decoded n a b ≡ Formed s → names_access n ≡ is_access s
-access_number_lem n a b e = sym (number_access n a b) ∙ ap access_of e
+pub access_number : (n a b : ℕ) {s : Step} → decoded n a b ≡ Formed s → names_access n ≡ is_access s
+access_number n a b e = sym (number_access n a b) ∙ ap access_of e

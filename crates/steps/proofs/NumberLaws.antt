@@ -1,12 +1,12 @@
 -- Steps from the numbers of a list, three at a time. Assumes nothing.
-use Rattle.std.proofs.Common.{◌≡◌, ℕ, suc, ◌+◌, ◌-◌, ◌<◌, ◌≤◌, Bool, true, false, cond, ◌&&◌, eqb, leb, List, [], ◌∷◌, length, get_or, drop, sym, refl, ap, ◌∙◌, subst, arith, length-drop, drop_of_length-le, drop-cons, eq-eqb, ne_eqb, eqb-true, leb-true}
+use Rattle.std.proofs.Common.{◌≡◌, ℕ, suc, ◌+◌, ◌-◌, ◌<◌, ◌≤◌, Bool, true, false, cond, ◌&&◌, eqb, leb, List, [], ◌∷◌, length, get_or, drop, sym, refl, ap, ◌∙◌, arith, length-drop, drop_of_length-le, drop-cons, eq-eqb, ne_eqb, eqb-true, leb-true}
 use mathlib.Core.Bool.{false≢true}
 use borrow.Author.Tests.{eqb-false}
 use Rattle.bits.proofs.Conjunction.{both}
 use Rattle.steps.specs.declared.Step.{Step}
 use Rattle.steps.specs.declared.Decoded.{Decoded}
 use Rattle.steps.specs.declared.Decoded.TheVariants.{Formed}
-use Rattle.steps.specs.Decode.{decoded, numbers_of, name_steps}
+use Rattle.steps.specs.Decode.{decoded, steps_of, name_steps}
 
 three : (l : List ℕ) (i : ℕ) → i + 3 ≤ length l
     → drop i l ≡ get_or l i 0 ∷ get_or l (i + 1) 0 ∷ get_or l (i + 2) 0 ∷ drop (i + 3) l
@@ -16,17 +16,17 @@ three l i h =
     let r : i + 3 ≡ suc (suc (suc i)) = omega arith in
     rw (p, q, r, drop-cons l i 0 (omega arith), drop-cons l (suc i) 0 (omega arith), drop-cons l (suc (suc i)) 0 (omega arith))
 
-pub named-next : (last : ℕ) (l : List ℕ) (i : ℕ) → 3 ≤ length l - i → name_steps last (drop i l) ≡ (leb (get_or l i 0) last && name_steps last (drop (i + 3) l))
+pub named_next : (l : List ℕ) (i : ℕ) → 3 ≤ length l - i → name_steps (drop i l) ≡ (leb (get_or l i 0) 17 && name_steps (drop (i + 3) l))
 unfolding name_steps
-named-next last l i h = rw (three l i (omega arith))
+named_next l i h = rw (three l i (omega arith))
 
 -- fewer than three numbers are left
-last-named : (last : ℕ) (l : List ℕ) → length l < 3 → name_steps last l ≡ eqb (length l) 0
+last-named : (l : List ℕ) → length l < 3 → name_steps l ≡ eqb (length l) 0
 unfolding name_steps
-last-named last [] h = refl
-last-named last (number ∷ []) h = refl
-last-named last (number ∷ a ∷ []) h = refl
-last-named last (number ∷ a ∷ b ∷ l) h = absurd (omega arith)
+last-named [] h = refl
+last-named (number ∷ []) h = refl
+last-named (number ∷ a ∷ []) h = refl
+last-named (number ∷ a ∷ b ∷ l) h = absurd (omega arith)
 
 all_passed : (n i : ℕ) → i ≤ n → eqb (n - i) 0 ≡ eqb n i
 all_passed n i h = go (eqb n i) refl
@@ -35,9 +35,9 @@ all_passed n i h = go (eqb n i) refl
     go true e = eq-eqb (n - i) 0 (omega (arith, eqb-true n i e))
     go false e = ne_eqb (n - i) 0 (λ z. eqb-false n i e (omega arith))
 
-pub named_end : (last : ℕ) (l : List ℕ) (i : ℕ) → i ≤ length l → length l - i < 3 → name_steps last (drop i l) ≡ eqb (length l) i
-named_end last l i h g =
-    last-named last (drop i l) (omega (arith, length-drop i l)) ∙ ap (λ (k : ℕ). eqb k 0) (length-drop i l) ∙ all_passed (length l) i h
+pub named_end : (l : List ℕ) (i : ℕ) → i ≤ length l → length l - i < 3 → name_steps (drop i l) ≡ eqb (length l) i
+named_end l i h g =
+    last-named (drop i l) (omega (arith, length-drop i l)) ∙ ap (λ (k : ℕ). eqb k 0) (length-drop i l) ∙ all_passed (length l) i h
 
 -- a step's number forms a step
 pub record IsFormed (d : Decoded) : Type 0 where
@@ -61,62 +61,45 @@ number-formed n a b h =
     else-formed n 16 _ _ (omega arith) (λ h16. else-formed n 17 _ _ (omega arith) (λ h17. absurd (omega arith)))))))))))))))))))
 
 -- what is known of the numbers from i on
-pub record Named (last : ℕ) (l : List ℕ) (i : ℕ) : Type 0 where
+pub record Named (l : List ℕ) (i : ℕ) : Type 0 where
+  pub step : Step
   pub room : i + 3 ≤ length l
-  pub known : get_or l i 0 ≤ last
-  pub rest : name_steps last (drop (i + 3) l) ≡ true
-  pub split : drop i l ≡ get_or l i 0 ∷ get_or l (i + 1) 0 ∷ get_or l (i + 2) 0 ∷ drop (i + 3) l
+  pub formed : decoded (get_or l i 0) (get_or l (i + 1) 0) (get_or l (i + 2) 0) ≡ Formed step
+  pub rest : name_steps (drop (i + 3) l) ≡ true
+  pub steps : steps_of (drop i l) ≡ step ∷ steps_of (drop (i + 3) l)
 
-room_for : (last : ℕ) (l : List ℕ) → name_steps last l ≡ true → 0 < length l → 3 ≤ length l
+room_for : (l : List ℕ) → name_steps l ≡ true → 0 < length l → 3 ≤ length l
 unfolding name_steps
-room_for last [] e h = absurd (omega arith)
-room_for last (number ∷ []) e h = absurd (false≢true e)
-room_for last (number ∷ a ∷ []) e h = absurd (false≢true e)
-room_for last (number ∷ a ∷ b ∷ l) e h = omega arith
+room_for [] e h = absurd (omega arith)
+room_for (number ∷ []) e h = absurd (false≢true e)
+room_for (number ∷ a ∷ []) e h = absurd (false≢true e)
+room_for (number ∷ a ∷ b ∷ l) e h = omega arith
 
-pub named : (last : ℕ) (l : List ℕ) (i : ℕ) → i < length l → name_steps last (drop i l) ≡ true → Named last l i
-named last l i h e =
+three-named : (l : List ℕ) (i : ℕ) → i + 3 ≤ length l → name_steps (drop i l) ≡ (leb (get_or l i 0) 17 && name_steps (drop (i + 3) l))
+unfolding name_steps
+three-named l i h = rw (three l i h)
+
+first_step : (l : List ℕ) (i : ℕ) → i + 3 ≤ length l → (s : Step)
+    → decoded (get_or l i 0) (get_or l (i + 1) 0) (get_or l (i + 2) 0) ≡ Formed s → steps_of (drop i l) ≡ s ∷ steps_of (drop (i + 3) l)
+unfolding steps_of
+first_step l i h s e = rw (three l i h, e)
+
+pub named : (l : List ℕ) (i : ℕ) → i < length l → name_steps (drop i l) ≡ true → Named l i
+named l i h e =
     let n = length-drop i l in
-    let k : 3 ≤ length (drop i l) = room_for last (drop i l) e (omega arith) in
+    let k : 3 ≤ length (drop i l) = room_for (drop i l) e (omega arith) in
     let room : i + 3 ≤ length l = omega arith in
-    let b = both (leb (get_or l i 0) last) (name_steps last (drop (i + 3) l)) (sym (named-next last l i (omega arith)) ∙ e) in
-    record { room = room; known = leb-true (get_or l i 0) last b.0; rest = b.1; split = three l i room }
+    let b = both (leb (get_or l i 0) 17) (name_steps (drop (i + 3) l)) (sym (three-named l i room) ∙ e) in
+    let f = number-formed (get_or l i 0) (get_or l (i + 1) 0) (get_or l (i + 2) 0) (leb-true (get_or l i 0) 17 b.0) in
+    record {
+      step = f.step;
+      room = room;
+      formed = f.formed;
+      rest = b.1;
+      steps = first_step l i room f.step f.formed;
+    }
 
 -- the end of the list
-pub nothing_left : (l : List ℕ) (i : ℕ) → length l ≤ i → drop i l ≡ []
-nothing_left l i h = drop_of_length-le l h
-
--- ---- the numbers of the step that numbers form: the first is the same, and an elapsed step has its cycles
-
-pub record FormedBy (n a : ℕ) (s : Step) : Type 0 where
-  pub number : get_or (numbers_of s) 0 0 ≡ n
-  pub cycles : n ≡ 17 → get_or (numbers_of s) 1 0 ≡ a
-
-module _ (n a : ℕ) where
-  abbrev Numbered : Decoded → Type 0
-  Numbered d = (s : Step) → d ≡ Formed s → FormedBy n a s
-
-  else_numbered : (k : ℕ) (t : Step) (d : Decoded) → get_or (numbers_of t) 0 0 ≡ k → (k ≡ 17 → get_or (numbers_of t) 1 0 ≡ a) → Numbered d
-      → Numbered (cond (eqb n k) (Formed t) d)
-  else_numbered k t d e f other = go (eqb n k) refl
-    where
-      go : (b : Bool) → eqb n k ≡ b → Numbered (cond b (Formed t) d)
-      go true h s q =
-          let same : t ≡ s = cc in
-          let n≡k = eqb-true n k h in
-          subst (FormedBy n a) same (record { number = e ∙ sym n≡k; cycles = λ z. f (sym n≡k ∙ z) })
-      go false h s q = other s q
-
-  no_elapsed : {k x : ℕ} → (k ≡ 17 → ⊥) → k ≡ 17 → x ≡ a
-  no_elapsed other z = absurd (other z)
-
-  pub formed-by : (b : ℕ) → Numbered (decoded n a b)
-  unfolding decoded
-  formed-by b =
-      else_numbered 0 _ _ refl (no_elapsed (λ z. omega arith)) (else_numbered 1 _ _ refl (no_elapsed (λ z. omega arith)) (else_numbered 2 _ _ refl (no_elapsed (λ z. omega arith)) (
-      else_numbered 3 _ _ refl (no_elapsed (λ z. omega arith)) (else_numbered 4 _ _ refl (no_elapsed (λ z. omega arith)) (else_numbered 5 _ _ refl (no_elapsed (λ z. omega arith)) (
-      else_numbered 6 _ _ refl (no_elapsed (λ z. omega arith)) (else_numbered 7 _ _ refl (no_elapsed (λ z. omega arith)) (else_numbered 8 _ _ refl (no_elapsed (λ z. omega arith)) (
-      else_numbered 9 _ _ refl (no_elapsed (λ z. omega arith)) (else_numbered 10 _ _ refl (no_elapsed (λ z. omega arith)) (else_numbered 11 _ _ refl (no_elapsed (λ z. omega arith)) (
-      else_numbered 12 _ _ refl (no_elapsed (λ z. omega arith)) (else_numbered 13 _ _ refl (no_elapsed (λ z. omega arith)) (else_numbered 14 _ _ refl (no_elapsed (λ z. omega arith)) (
-      else_numbered 15 _ _ refl (no_elapsed (λ z. omega arith)) (else_numbered 16 _ _ refl (no_elapsed (λ z. omega arith)) (else_numbered 17 _ _ refl (λ z. refl)
-      (λ s q. let z : ◌≡◌ {A = ℕ} 0 1 = cc in absurd (omega arith)))))))))))))))))))
+pub nothing_left : (l : List ℕ) (i : ℕ) → length l ≤ i → steps_of (drop i l) ≡ []
+unfolding steps_of
+nothing_left l i h = let n : drop i l ≡ [] = drop_of_length-le l h in rw n

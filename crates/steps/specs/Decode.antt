@@ -1,12 +1,9 @@
 -- 01, "Steps": the step that a number and its arguments a, b name.
 use Rattle.std.specs.Prelude.{ℕ, Bool, true, false, cond, ◌&&◌, List, [], ◌∷◌, ◌==◌, nat_le}
-use Rattle.pmp.specs.declared.Access.{Access}
 use Rattle.pmp.specs.declared.Access.TheVariants.{Fetch, Load, Store}
-use Rattle.steps.specs.declared.Operation.{Operation}
 use Rattle.steps.specs.declared.Operation.TheVariants.{Write, Set, Clear, Read}
 use Rattle.steps.specs.declared.Step.{Step}
 use Rattle.steps.specs.declared.Step.TheVariants.{Reset, Csr, Access as AccessStep, Event as EventStep}
-use Rattle.steps.specs.declared.Event.{Event}
 use Rattle.steps.specs.declared.Event.TheVariants.{Raise, Lines, TakeInterrupt, Mret, Sret, Wfi, Ecall, Ebreak, Advance, Elapsed}
 use Rattle.steps.specs.declared.Decoded.{Decoded}
 use Rattle.steps.specs.declared.Decoded.TheVariants.{Formed, Nothing}
@@ -46,39 +43,21 @@ is_access (EventStep event) = false
 abbrev pub names_access : ℕ → Bool
 names_access number = nat_le 14 number && nat_le number 16
 
--- and back: the numbers of a step; an argument that it does not name is 0
-abbrev pub event_numbers : Event → List ℕ
-event_numbers (Raise cause tval) = 5 ∷ cause ∷ tval ∷ []
-event_numbers (Lines lines) = 6 ∷ lines ∷ 0 ∷ []
-event_numbers TakeInterrupt = 7 ∷ 0 ∷ 0 ∷ []
-event_numbers Mret = 8 ∷ 0 ∷ 0 ∷ []
-event_numbers Sret = 9 ∷ 0 ∷ 0 ∷ []
-event_numbers Wfi = 10 ∷ 0 ∷ 0 ∷ []
-event_numbers Ecall = 11 ∷ 0 ∷ 0 ∷ []
-event_numbers Ebreak = 12 ∷ 0 ∷ 0 ∷ []
-event_numbers (Advance target) = 13 ∷ target ∷ 0 ∷ []
-event_numbers (Elapsed cycles retired) = 17 ∷ cycles ∷ retired ∷ []
+-- a list with the step in front, where there is one
+abbrev pub prepended : Decoded → List Step → List Step
+prepended (Formed s) steps = s ∷ steps
+prepended Nothing steps = steps
 
-abbrev pub operation_number : Operation → ℕ
-operation_number Write = 1
-operation_number Set = 2
-operation_number Clear = 3
-operation_number Read = 4
+-- three numbers a step; three that form no step, and one or two left over, are passed over
+unfoldable pub steps_of : List ℕ → List Step
+steps_of [] = []
+steps_of (number ∷ []) = []
+steps_of (number ∷ a ∷ []) = []
+steps_of (number ∷ a ∷ b ∷ rest) = prepended (decoded number a b) (steps_of rest)
 
-abbrev pub access_number : Access → ℕ
-access_number Fetch = 14
-access_number Load = 15
-access_number Store = 16
-
-abbrev pub numbers_of : Step → List ℕ
-numbers_of Reset = 0 ∷ 0 ∷ 0 ∷ []
-numbers_of (Csr op number operand) = operation_number op ∷ number ∷ operand ∷ []
-numbers_of (AccessStep access address size) = access_number access ∷ address ∷ size ∷ []
-numbers_of (EventStep event) = event_numbers event
-
--- three numbers for each step, and the first is not above the last step's
-unfoldable pub name_steps : ℕ → List ℕ → Bool
-name_steps last [] = true
-name_steps last (number ∷ []) = false
-name_steps last (number ∷ a ∷ []) = false
-name_steps last (number ∷ a ∷ b ∷ rest) = nat_le number last && name_steps last rest
+-- three numbers for each step, and the first names one
+unfoldable pub name_steps : List ℕ → Bool
+name_steps [] = true
+name_steps (number ∷ []) = false
+name_steps (number ∷ a ∷ []) = false
+name_steps (number ∷ a ∷ b ∷ rest) = nat_le number 17 && name_steps rest

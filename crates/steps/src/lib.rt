@@ -4,7 +4,7 @@ use pmp::Access;
 mod from_numbers;
 mod numbers;
 
-pub use from_numbers::{decode, name_steps, names_access, numbers_of};
+pub use from_numbers::{decode, name_steps, names_access};
 pub use numbers::{answer_words, level_number, refusal_of};
 
 // What a CSR step does. `Read` is no write attempt; the other three are, even with operand 0.

@@ -4,13 +4,13 @@ use mathlib.Core.Path.{◌≡◌, refl, sym, ap, ◌∙◌}
 use mathlib.Core.Bool.{Bool, true, false, cond}
 use mathlib.Core.List.{List, [], ◌∷◌, ◌++◌}
 use native.Mathlib.Omega.{arith}
-use lib.ListN.{length, get_or, drop}
+use lib.ListN.{length, get_or, drop, length-append}
 use lib.Seq.{drop-append_seam}
 use Rattle.lines.specs.Lines.{bytes_of, lines_of, places_of, words_in}
 use Rattle.bits.specs.Lists.{elements, Words}
 use Rattle.bits.proofs.ListLaws.{elements_are}
 use Rattle.bits.proofs.SameLaws.{same_refl, same_eq}
-use Rattle.lines.proofs.Back.{words_append, two-words, words_found, words_back}
+use Rattle.lines.proofs.Back.{words_found, words_back}
 use Rattle.text.specs.declared.Form.{Form}
 use Rattle.text.specs.declared.Form.TheVariants.{First, Second}
 use Rattle.text.specs.Text.{Reading, other, first_keys, keys_of, head_of, text_of, length_of, head_length, line_count, completed, words_of_text, is_text_of, read_as, no_text, read_text}
@@ -34,15 +34,15 @@ module _ (ws : List ℕ) where
   lines-words First w = record { count = refl; below = elements-below 41 0 ws w.below }
   lines-words Second w = record { count = refl; below = elements-below 43 0 ws w.below }
 
-  lines-spelt : (form : Form) → lines_of (keys_of form) 0 ws ≡ lines_of (keys_of form) 0 (elements (line_count form) 0 ws)
+  lines_spelt : (form : Form) → lines_of (keys_of form) 0 ws ≡ lines_of (keys_of form) 0 (elements (line_count form) 0 ws)
   unfolding bytes_of first_keys keys_of lines_of elements
-  lines-spelt First = refl
-  lines-spelt Second = refl
+  lines_spelt First = refl
+  lines_spelt Second = refl
 
-  text-spelt : (form : Form) → text_of form (with_lines form ws) ≡ text_of form ws
+  text_spelt : (form : Form) → text_of form (with_lines form ws) ≡ text_of form ws
   unfolding bytes_of first_keys keys_of lines_of text_of completed elements
-  text-spelt First = refl
-  text-spelt Second = refl
+  text_spelt First = refl
+  text_spelt Second = refl
 
   -- the second form has a line for every word
   pub all_lines : length ws ≡ 43 → with_lines Second ws ≡ ws
@@ -62,13 +62,13 @@ module _ (form : Form) where
   words_in_lem ws w =
       let e : drop (head_length form) (head_of form ++ lines_of (keys_of form) 0 ws) ≡ lines_of (keys_of form) 0 ws =
       ap (λ (n : ℕ). drop n (head_of form ++ lines_of (keys_of form) 0 ws)) (sym (head_length_lem form)) ∙ drop-append_seam (head_of form) (lines_of (keys_of form) 0 ws) in
-      ap (λ (t : List ℕ). completed form (words_in (keys_of form) t)) (e ∙ lines-spelt ws form)
+      ap (λ (t : List ℕ). completed form (words_in (keys_of form) t)) (e ∙ lines_spelt ws form)
       ∙ ap (completed form) (words_back (keys_of form) (elements (line_count form) 0 ws) (lines-words ws form w))
 
   -- the text of words gives the words that it has lines for
   pub read-text : (ws : List ℕ) → Words 43 ws → read_text form (text_of form ws) ≡ read_as (with_lines form ws)
   unfolding is_text_of read_text
-  read-text ws w = rw (words_in_lem ws w, text-spelt ws form, same_refl (text_of form ws))
+  read-text ws w = rw (words_in_lem ws w, text_spelt ws form, same_refl (text_of form ws))
 
   -- a text that gives words is their text
   pub text-read : (t ws : List ℕ) → read_text form t ≡ read_as ws → t ≡ text_of form ws
@@ -100,9 +100,22 @@ module _ (form : Form) where
       go true q = refl
       go false q = let z : ◌≡◌ {A = ℕ} 0 1 = cc in absurd (omega arith)
 
+append_below : (xs ys : List ℕ) → ((i : ℕ) → get_or xs i 0 < 2 ^ 64) → ((i : ℕ) → get_or ys i 0 < 2 ^ 64) → (i : ℕ) → get_or (xs ++ ys) i 0 < 2 ^ 64
+append_below [] ys h k i = k i
+append_below (x ∷ xs) ys h k zero = h 0
+append_below (x ∷ xs) ys h k (suc i) = append_below xs ys (λ j. h (suc j)) k i
+
+zeros_below : (i : ℕ) → get_or (0 ∷ 0 ∷ []) i 0 < 2 ^ 64
+zeros_below zero = omega arith
+zeros_below (suc zero) = omega arith
+zeros_below (suc (suc i)) = omega arith
+
 completed-words : (form : Form) (ws : List ℕ) → Words (length (keys_of form)) ws → Words 43 (completed form ws)
 unfolding first_keys keys_of completed
-completed-words First ws w = words_append 41 2 ws (0 ∷ 0 ∷ []) w (two-words 0 0 (omega arith) (omega arith))
+completed-words First ws w = record {
+  count = length-append ws (0 ∷ 0 ∷ []) ∙ ap (λ (n : ℕ). n + 2) w.count;
+  below = append_below ws (0 ∷ 0 ∷ []) w.below zeros_below;
+}
 completed-words Second ws w = w
 
 -- what is read is 43 words of 64 bits

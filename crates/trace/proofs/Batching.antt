@@ -1,45 +1,39 @@
 -- The loop over whole records, whatever is written for each. Assumes nothing.
-use Rattle.std.proofs.Common.{◌≡◌, ℕ, zero, suc, ◌+◌, ◌-◌, ◌*◌, ◌%◌, ◌^◌, ◌<◌, ◌≤◌, Bool, true, false, cond, not, ◌||◌, eqb, ltb, List, [], ◌∷◌, ◌++◌, length, take, drop, sym, refl, ap, ◌∙◌, subst, mul-suc, arith, length-append, drop-drop, ltb-false, ltb-true, eqb-true, le-leb}
+use Rattle.std.proofs.Common.{◌≡◌, ℕ, zero, suc, ◌+◌, ◌-◌, ◌*◌, ◌%◌, ◌^◌, ◌<◌, ◌≤◌, Bool, true, false, cond, ◌||◌, List, [], ◌∷◌, ◌++◌, length, take, drop, sym, refl, ap, ◌∙◌, subst, mul-suc, arith, length-append, drop-drop, le-leb}
 use mathlib.Core.Bool.{false≢true}
-use mathlib.Core.Option.{Option, some, none, some-injective, none-ne-some}
 use lib.Seq.{sets, length-sets}
-use borrow.Author.Tests.{not-false}
-use Rattle.bits.proofs.Conjunction.{neither}
 use Rattle.bits.specs.Fold.{fold, outputs, any_step}
+use Rattle.steps.specs.declared.Step.{Step}
 use Rattle.steps.specs.declared.Decoded.{Decoded}
 use Rattle.steps.specs.declared.Decoded.TheVariants.{Formed, Nothing}
-use Rattle.steps.specs.Decode.{decoded, names_access}
-use Rattle.steps.proofs.AccessLaws.{access_number_lem}
+use Rattle.steps.specs.Decode.{is_access}
+use Rattle.steps.specs.Number.{answer_interrupt}
 use Rattle.paging.specs.Memory.{Memory}
 use Rattle.state.specs.declared.State.{State}
 use Rattle.state.specs.Hold.{can_hold}
 use Rattle.state.specs.Words.{state_of}
 use Rattle.map.specs.declared.Map.{Map}
 use Rattle.engine.specs.declared.Taken.{Taken}
-use Rattle.ledger.specs.declared.Ledger.{Ledger}
-use Rattle.ledger.specs.declared.MeteredStep.TheVariants.{Tenant}
-use Rattle.ledger.specs.Words.{lent_by}
-use Rattle.ledger.specs.Given.{Given, Metered, accesses, unmetered, metered, asked, last_step}
-use Rattle.ledger.proofs.GivenLaws.{asked-formed, asked-none}
-use Rattle.engine.specs.Metering.{given_by, left_by, given_rule}
-use Rattle.engine.specs.Taking.{given_taken, remaps, asked_ledger}
+use Rattle.engine.specs.Effects.{ruled_by, step_rule}
+use Rattle.engine.specs.Taking.{step_taken, remaps}
 use Rattle.engine.specs.Runs.{lent_to, state_after}
-use Rattle.engine.proofs.GivenLaws.{given_ruled, left_ruled}
-use Rattle.engine.proofs.MeteringLaws.{given-held, unmetered-ledger}
-use Rattle.hart.specs.Steps.{map_for, hart_with, handed_back, stepped_by, ledger_by}
+use Rattle.engine.proofs.Plain.{ruled_plain}
+use Rattle.engine.proofs.TakingLaws.{still_held}
+use Rattle.hart.specs.declared.Stepped.{Stepped}
+use Rattle.hart.specs.Steps.{map_for, hart_with, handed_back, stepped}
 use Rattle.hart.proofs.StepLaws.{step_parts}
-use Rattle.hart.proofs.MeteringLaws.{ledger-left}
 use Rattle.hart.proofs.LeftLaws.{pmp-stays}
 use Rattle.records.specs.declared.Record.{Record}
 use Rattle.records.specs.declared.Record.TheVariants.{Words as RecordWords, Broken as NoRecord}
-use Rattle.records.specs.Records.{read_numbers}
+use Rattle.records.specs.Records.{read_step, read_numbers}
+use Rattle.records.proofs.Numbers.{Numbered, numbers-named, numbers-none}
 use Rattle.scrap.specs.declared.Numbers.{Numbers}
 use Rattle.scrap.specs.Places.{numbers_behind, record_at as placed}
 use Rattle.trace.specs.declared.Cursor.{Cursor}
 use Rattle.trace.specs.Buffers.{Put}
 use Rattle.trace.specs.Replies.{Reply, Answered, Broken, written, text_by, width_of, target, spared}
-use Rattle.trace.specs.Reading.{Replay, after_step, asked_in, read_step, after_asked, reply_to, after_record, record_replies}
-use Rattle.trace.specs.Batches.{records_of, after_records, records_replies, carried, Slices, carried_by, MayLend, Batched}
+use Rattle.trace.specs.Reading.{Replay, after_step, after_decoded, reply_to, after_record, record_replies}
+use Rattle.trace.specs.Batches.{records_of, after_records, records_replies, carried, carried_by, Batched}
 use Rattle.trace.proofs.Writing.{sets_append}
 use Rattle.trace.proofs.Replying.{text-length}
 
@@ -60,66 +54,27 @@ module _ (bytes : List ℕ) (at : ℕ) (h : at + 60 ≤ length bytes) {n : Numbe
       go (RecordWords step a b) q = ap (λ (x : Numbers). x.at) (there ∙ ap (λ (y : Record). numbers_behind y (at + 60)) q)
       go NoRecord q = ap (λ (x : Numbers). x.at) (there ∙ ap (λ (y : Record). numbers_behind y (at + 60)) q)
 
-  -- the numbers that name a step, or that none is named
-  pub read_named : n.named ≡ true → read_numbers (record_at bytes at) ≡ RecordWords n.step n.a n.b
+  -- the step that the numbers name
+  pub read_named : n.named ≡ true → Numbered (record_at bytes at) n.step n.a n.b
   read_named t = go (read_numbers (record_at bytes at)) refl
     where
-      go : (r : Record) → read_numbers (record_at bytes at) ≡ r → read_numbers (record_at bytes at) ≡ RecordWords n.step n.a n.b
+      go : (r : Record) → read_numbers (record_at bytes at) ≡ r → Numbered (record_at bytes at) n.step n.a n.b
       go (RecordWords step a b) q =
           let z = there ∙ ap (λ (y : Record). numbers_behind y (at + 60)) q in
-          q ∙ (λ j. RecordWords (sym z j).step (sym z j).a (sym z j).b)
+          numbers-named (record_at bytes at) n.step n.a n.b (q ∙ (λ j. RecordWords (sym z j).step (sym z j).a (sym z j).b))
       go NoRecord q = absurd (false≢true (sym (ap (λ (x : Numbers). x.named) (there ∙ ap (λ (y : Record). numbers_behind y (at + 60)) q)) ∙ t))
 
-  read_none : n.named ≡ false → read_numbers (record_at bytes at) ≡ NoRecord
+  pub read_none : n.named ≡ false → read_step (record_at bytes at) ≡ Nothing
   read_none t = go (read_numbers (record_at bytes at)) refl
     where
-      go : (r : Record) → read_numbers (record_at bytes at) ≡ r → read_numbers (record_at bytes at) ≡ NoRecord
+      go : (r : Record) → read_numbers (record_at bytes at) ≡ r → read_step (record_at bytes at) ≡ Nothing
       go (RecordWords step a b) q = absurd (false≢true (sym t ∙ ap (λ (x : Numbers). x.named) (there ∙ ap (λ (y : Record). numbers_behind y (at + 60)) q)))
-      go NoRecord q = q
+      go NoRecord q = numbers-none (record_at bytes at) q
 
-  -- by the ledger, if one is lent: what the code tests
-  module _ (l : Option Ledger) where
-    pub read-broken : (not n.named || ltb (last_step l) n.step) ≡ true → read_step l (record_at bytes at) ≡ none
-    read-broken t = go n.named refl t
-      where
-        go : (b : Bool) → n.named ≡ b → (not b || ltb (last_step l) n.step) ≡ true → read_step l (record_at bytes at) ≡ none
-        go true q above = ap (asked_in l) (read_named q) ∙ asked-none l n.step n.a n.b (ltb-true (last_step l) n.step above)
-        go false q above = ap (asked_in l) (read_none q)
-
-    -- the step that is named
-    pub record IsRead : Type 0 where
-      pub given : Given
-      pub formed : asked l n.step n.a n.b ≡ some given
-      pub read : read_step l (record_at bytes at) ≡ some given
-
-    pub read-given : (not n.named || ltb (last_step l) n.step) ≡ false → IsRead
-    read-given t =
-        let k = neither (not n.named) (ltb (last_step l) n.step) t in
-        let f = asked-formed l n.step n.a n.b (ltb-false (last_step l) n.step k.1) in
-        record { given = f.given; formed = f.formed; read = ap (asked_in l) (read_named (not-false n.named k.0)) ∙ f.formed }
-
--- whether a step is an access, by its number
-pub asked_access : (l : Option Ledger) (n a b : ℕ) {g : Given} → asked l n a b ≡ some g → names_access n ≡ accesses g
-asked_access none n a b {g} e = go (decoded n a b) refl e
-  where
-    go : (d : Decoded) → decoded n a b ≡ d → unmetered d ≡ some g → names_access n ≡ accesses g
-    go (Formed step) p q = access_number_lem n a b p ∙ ap accesses (some-injective _ _ q)
-    go Nothing p q = absurd (none-ne-some _ q)
-asked_access (some l) n a b {g} e = go (eqb n 18) refl e
-  where
-    plain : (d : Decoded) → decoded n a b ≡ d → metered l d ≡ some g → names_access n ≡ accesses g
-    plain (Formed step) p q = access_number_lem n a b p ∙ ap accesses (some-injective _ _ q)
-    plain Nothing p q = absurd (none-ne-some _ q)
-
-    go : (c : Bool) → eqb n 18 ≡ c → cond c (some (Metered (Tenant a b) l)) (metered l (decoded n a b)) ≡ some g → names_access n ≡ accesses g
-    go true p q = ap names_access (eqb-true n 18 p) ∙ ap accesses (some-injective _ _ q)
-    go false p q = plain (decoded n a b) refl q
-
--- where lines are written, no step makes the words lend a ledger
-pub still_unlent : (o : Bool) (w x : List ℕ) (held : Bool) (s : State) (m : Memory) (n a b : ℕ) → MayLend o w
-    → lent_by x ≡ asked_ledger held s m (lent_by w) (asked (lent_by w) n a b) → MayLend o x
-still_unlent o w x held s m n a b may e t =
-    e ∙ ap (λ (l : Option Ledger). asked_ledger held s m l (asked l n a b)) (may t) ∙ unmetered-ledger held s m (decoded n a b)
+-- no step answers with an interrupt
+pub taken-plain : (held : Bool) (s : State) (m : Memory) (step : Step) {t : Taken} → t ≡ step_taken held s m step → answer_interrupt t.answer ≡ 0
+unfolding step_taken
+taken-plain held s m step e = ap (λ (x : Taken). answer_interrupt x.answer) e ∙ ruled_plain s m held step
 
 -- one record's room
 one_less : (left w : ℕ) → 0 < left → w * left ≡ w * (left - 1) + w
@@ -148,8 +103,8 @@ module _ (m : Memory) where
     stopped_record : (t : List ℕ) → (after_record m r t ≡ r) × (record_replies m r t ≡ [])
     unfolding after_record record_replies
     stopped_record t = (
-      ap (λ (b : Bool). cond b r (after_asked m r (read_step r.ledger t))) h,
-      ap (λ (b : Bool). cond b [] (reply_to m r (read_step r.ledger t) ∷ [])) h,
+      ap (λ (b : Bool). cond b r (after_decoded m r (read_step t))) h,
+      ap (λ (b : Bool). cond b [] (reply_to m r (read_step t) ∷ [])) h,
     )
 
     pub stopped_still : (ts : List (List ℕ)) → Still r ts
@@ -176,49 +131,45 @@ module _ (m : Memory) where
 
   -- ---- a step on the words
 
-  module _ (s : State) (g : Given) {x : State} {held : Bool} {t : Taken} (h : held ≡ can_hold s) (e : t ≡ given_taken held s m g)
-      (f : x ≡ (given_by held s m g).state) where
+  module _ (s : State) (step : Step) {x : State} {held : Bool} {t : Taken} (h : held ≡ can_hold s) (e : t ≡ step_taken held s m step)
+      (f : x ≡ (ruled_by held s m step).state) where
     pub held_next : t.held ≡ can_hold x
-    unfolding given_taken
-    held_next = ap (λ (y : Taken). y.held) e ∙ given-held held s m g h ∙ ap can_hold (sym f)
+    unfolding step_taken
+    held_next = ap (λ (y : Taken). y.held) e ∙ still_held held s m step h ∙ ap can_hold (sym f)
 
-    ruled : given_by held s m g ≡ given_rule s m g
-    ruled = given_ruled held s m g h
+    ruled : ruled_by held s m step ≡ step_rule s m step
+    unfolding step_rule
+    ruled = ap (λ (b : Bool). ruled_by b s m step) h
 
     -- a map compiled before is that of the registers, where the step leaves them
-    map_next : (map : Map) (r b : Bool) → remaps s m g ≡ b
-        → cond b (map_for (state_after s (lent_to m g)).pmp) (cond r (map_for s.pmp) map) ≡ cond (r || b) (map_for (state_after s (lent_to m g)).pmp) map
+    map_next : (map : Map) (r b : Bool) → remaps s m step ≡ b
+        → cond b (map_for (state_after s (lent_to m step)).pmp) (cond r (map_for s.pmp) map) ≡ cond (r || b) (map_for (state_after s (lent_to m step)).pmp) map
     unfolding fold any_step
     map_next map true true q = refl
-    map_next map true false q = ap map_for (pmp-stays s (lent_to m g ∷ []) (ap (λ (b : Bool). b || false) q))
+    map_next map true false q = ap map_for (pmp-stays s (lent_to m step ∷ []) (ap (λ (b : Bool). b || false) q))
     map_next map false true q = refl
     map_next map false false q = refl
 
-    step-carried : (remap : Bool) (map : Map) → stepped_by (hart_with s) (cond remap (map_for s.pmp) map) m g
+    step-carried : (remap : Bool) (map : Map) → stepped (hart_with s) (cond remap (map_for s.pmp) map) m step
         ≡ handed_back (hart_with x) (cond (remap || t.remap) (map_for x.pmp) map) t.answer
-    unfolding given_taken
+    unfolding step_taken
     step-carried remap map =
-        let q : state_after s (lent_to m g) ≡ x = sym (f ∙ ap (λ r. r.state) ruled) in
-        let a : (given_rule s m g).answer ≡ t.answer = sym (ap (λ (y : Taken). y.answer) e ∙ ap (λ r. r.answer) ruled) in
-        let k : remaps s m g ≡ t.remap = sym (ap (λ (y : Taken). y.remap) e ∙ rw ruled) in
-        let n = map_next map remap (remaps s m g) refl ∙ (λ j. cond (remap || k j) (map_for (q j).pmp) map) in
-        step_parts (hart_with s) (cond remap (map_for s.pmp) map) m g ∙ (λ j. handed_back (hart_with (q j)) (n j) (a j))
+        let q : state_after s (lent_to m step) ≡ x = sym (f ∙ ap (λ r. r.state) ruled) in
+        let a : (step_rule s m step).answer ≡ t.answer = sym (ap (λ (y : Taken). y.answer) e ∙ ap (λ r. r.answer) ruled) in
+        let k : remaps s m step ≡ t.remap = sym (ap (λ (y : Taken). y.remap) e ∙ rw ruled) in
+        let n = map_next map remap (remaps s m step) refl ∙ (λ j. cond (remap || k j) (map_for (q j).pmp) map) in
+        step_parts (hart_with s) (cond remap (map_for s.pmp) map) m step ∙ (λ j. handed_back (hart_with (q j)) (n j) (a j))
 
-    ledger-carried : (map : Map) → ledger_by (hart_with s) map m g ≡ left_by held s m g
-    ledger-carried map = ledger-left (hart_with s) map m g ∙ sym (left_ruled held s m g h)
-
-    formed : (remap : Bool) (map : Map) (l : Option Ledger) (number : ℕ) (text : List ℕ) {left : Option Ledger} {k : ℕ} {accessed : Bool}
-        → read_step l text ≡ some g → left ≡ left_by held s m g → k ≡ (number + 1) % 2 ^ 64 → accessed ≡ accesses g →
-        let here = carried s remap map l number false in
-        (after_record m here text ≡ carried x (remap || t.remap) map left k false) × (record_replies m here text ≡ Answered t.answer accessed ∷ [])
+    formed : (remap : Bool) (map : Map) (number : ℕ) (text : List ℕ) {k : ℕ} {accessed : Bool} → read_step text ≡ Formed step → k ≡ (number + 1) % 2 ^ 64
+        → accessed ≡ is_access step →
+        let here = carried s remap map number false in
+        (after_record m here text ≡ carried x (remap || t.remap) map k false) × (record_replies m here text ≡ Answered t.answer accessed ∷ [])
     unfolding after_record record_replies
-    formed remap map l number text {left} {k} r p i a =
-        let here = carried s remap map l number false in
+    formed remap map number text r i a =
+        let here = carried s remap map number false in
         let c = step-carried remap map in (
-          ap (after_asked m here) r
-              ∙ (λ j. after_step (c j) ((ledger-carried (cond remap (map_for s.pmp) map) ∙ sym p) j) number)
-              ∙ (λ j. carried x (remap || t.remap) map left (sym i j) false),
-          ap (λ (d : Option Given). reply_to m here d ∷ []) r ∙ (λ j. Answered (c j).answer (sym a j) ∷ []),
+          ap (after_decoded m here) r ∙ ap (λ (y : Stepped). after_step y number) c ∙ (λ j. carried x (remap || t.remap) map (sym i j) false),
+          ap (λ (d : Decoded). reply_to m here d ∷ []) r ∙ (λ j. Answered (c j).answer (sym a j) ∷ []),
         )
 
   -- ---- the loop
@@ -288,40 +239,39 @@ module _ (m : Memory) where
         },
       )
 
-    module _ {start : Replay} {out : List ℕ} {left : ℕ} (s : State) (remap : Bool) (map : Map) (l : Option Ledger) (number : ℕ) {filled at : ℕ}
-        (turn : Turn start out left (carried s remap map l number false) filled at) (more : 0 < left) {after : List ℕ} {next : ℕ} where
-      pub turn_formed : (g : Given) {x : State} {held : Bool} {t : Taken} {ledger : Option Ledger} {k : ℕ} {accessed again : Bool} → held ≡ can_hold s
-          → t ≡ given_taken held s m g → x ≡ (given_by held s m g).state → read_step l (record_at bytes at) ≡ some g → ledger ≡ left_by held s m g
-          → k ≡ (number + 1) % 2 ^ 64 → accessed ≡ accesses g → t.remap ≡ again → Put out filled (text_by o (Answered t.answer accessed)) after next
-          → Turn start after (left - 1) (carried x (remap || again) map ledger k false) next (at + 60)
-      turn_formed g {x} {held} {t} {ledger} {k} {accessed} {again} h e f r p i a q put =
-          let one = formed s g h e f remap map l number (record_at bytes at) r p i a in
-          turn_next turn (carried x (remap || again) map ledger k false) (Answered t.answer accessed) more
-          (one.0 ∙ (λ j. carried x (remap || q j) map ledger k false), one.1) put
+    module _ {start : Replay} {out : List ℕ} {left : ℕ} (s : State) (remap : Bool) (map : Map) (number : ℕ) {filled at : ℕ}
+        (turn : Turn start out left (carried s remap map number false) filled at) (more : 0 < left) {after : List ℕ} {next : ℕ} where
+      pub turn_formed : (step : Step) {x : State} {held : Bool} {t : Taken} {k : ℕ} {accessed again : Bool} → held ≡ can_hold s → t ≡ step_taken held s m step
+          → x ≡ (ruled_by held s m step).state → read_step (record_at bytes at) ≡ Formed step → k ≡ (number + 1) % 2 ^ 64
+          → accessed ≡ is_access step → t.remap ≡ again → Put out filled (text_by o (Answered t.answer accessed)) after next
+          → Turn start after (left - 1) (carried x (remap || again) map k false) next (at + 60)
+      turn_formed step {x} {held} {t} {k} {accessed} {again} h e f r i a g put =
+          let one = formed s step h e f remap map number (record_at bytes at) r i a in
+          turn_next turn (carried x (remap || again) map k false) (Answered t.answer accessed) more
+          (one.0 ∙ (λ j. carried x (remap || g j) map k false), one.1) put
 
-      pub turn_broken : read_step l (record_at bytes at) ≡ none → Put out filled (text_by o (Broken number)) after next
-          → Turn start after (left - 1) (carried s remap map l number true) next (at + 60)
+      pub turn_broken : read_step (record_at bytes at) ≡ Nothing → Put out filled (text_by o (Broken number)) after next
+          → Turn start after (left - 1) (carried s remap map number true) next (at + 60)
       unfolding after_record record_replies
       turn_broken r put =
-          let here = carried s remap map l number false in
-          turn_next turn (carried s remap map l number true) (Broken number) more
-          (ap (after_asked m here) r, ap (λ (d : Option Given). reply_to m here d ∷ []) r) put
+          let here = carried s remap map number false in
+          turn_next turn (carried s remap map number true) (Broken number) more
+          (ap (after_decoded m here) r, ap (λ (d : Decoded). reply_to m here d ∷ []) r) put
 
   -- ---- the call
 
-  module _ (o : Bool) (texts : List (List ℕ)) (map : Map) (start : Cursor) (before : Slices) where
+  module _ (o : Bool) (texts : List (List ℕ)) (map : Map) (start : Cursor) (before buffer : List ℕ) where
     -- from the replay of a start that has not stopped
-    pub batched : (end : Cursor) (after : Slices) → start.stopped ≡ false →
-        let first = carried (state_of before.words) start.remap map (lent_by before.ledger) start.number false in
-        (after_records m first texts ≡ carried_by end after map) × Put before.output start.filled (written (text_by o) (records_replies m first texts)) after.output end.filled
-        → Batched m o texts map start before end after
-    batched end after e over = record {
-      replay = (λ j. after_records m (from (e j)) texts) ∙ over.0;
+    pub batched : (end : Cursor) (words after : List ℕ) → start.stopped ≡ false →
+        let first = carried (state_of before) start.remap map start.number false in
+        (after_records m first texts ≡ carried_by end words map) × Put buffer start.filled (written (text_by o) (records_replies m first texts)) after end.filled
+        → Batched m o texts map start before buffer end words after
+    batched end words after e over = record {
+      replay = (λ j. after_records m (carried (state_of before) start.remap map start.number (e j)) texts) ∙ over.0;
       put = record {
-        bytes = over.1.bytes ∙ (λ j. sets before.output start.filled (written (text_by o) (records_replies m (from (sym e j)) texts)));
-        behind = over.1.behind ∙ (λ j. start.filled + length (written (text_by o) (records_replies m (from (sym e j)) texts)));
+        bytes = over.1.bytes
+            ∙ (λ j. sets buffer start.filled (written (text_by o) (records_replies m (carried (state_of before) start.remap map start.number (sym e j)) texts)));
+        behind = over.1.behind
+            ∙ (λ j. start.filled + length (written (text_by o) (records_replies m (carried (state_of before) start.remap map start.number (sym e j)) texts)));
       };
     }
-      where
-        from : Bool → Replay
-        from stopped = carried (state_of before.words) start.remap map (lent_by before.ledger) start.number stopped

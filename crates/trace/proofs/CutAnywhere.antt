@@ -8,8 +8,8 @@ use Rattle.bits.proofs.FoldLaws.{fold_append, outputs_append}
 use Rattle.paging.specs.Memory.{Memory, memory_at}
 use Rattle.trace.specs.Replies.{Reply}
 use Rattle.trace.specs.Reading.{Replay, Reading, reading, after_record, record_replies, after_byte, byte_replies, after_bytes, replies_to}
-use Rattle.trace.specs.Feeding.{reading_of, answerable, after_feed, feed_replies, taken_by, fed, fed_ledger}
-use Rattle.trace.specs.CutAnywhere.{Feed, Handed, handed_after, taken_from, answers_to, lent_at, after_feeds, all_taken, all_answers, all_lent, Outcome, outcome, CutAnywhere, EveryByte, AllLend, at_once, OneSlice}
+use Rattle.trace.specs.Feeding.{reading_of, answerable, after_feed, feed_replies, taken_by, fed}
+use Rattle.trace.specs.CutAnywhere.{Feed, Handed, handed_after, taken_from, answers_to, lent_at, after_feeds, all_taken, all_answers, all_lent, Outcome, outcome, CutAnywhere, scraps, AllRoom, EveryByte, AllLend, at_once, OneSlice}
 use Rattle.trace.proofs.OneByte.{bytes-ignored}
 use Rattle.trace.proofs.Readers.{reading_kept, bytes_kept, reading-back}
 
@@ -76,11 +76,11 @@ module _ (m : Memory) where
   unfolding record_replies
   one_reply r text h = rw h
 
-  run-byte : (x : Reading) (b : ℕ) (ms : List Memory) →
+  run_byte_lem : (x : Reading) (b : ℕ) (ms : List Memory) →
       let lent = replicate (length (byte_replies m x b)) m ++ ms in
       (run_byte (run x lent) b ≡ run (after_byte m x b) ms) × (run_replies (run x lent) b ≡ byte_replies m x b)
   unfolding run_byte run_replies after_byte byte_replies
-  run-byte x b ms = go x.replay.stopped refl (ltb (length x.left) 59) refl
+  run_byte_lem x b ms = go x.replay.stopped refl (ltb (length x.left) 59) refl
     where
       text : List ℕ
       text = x.left ++ b ∷ []
@@ -103,12 +103,12 @@ module _ (m : Memory) where
           let e : lent false false ≡ m ∷ ms = ap (λ (n : ℕ). replicate n m ++ ms) (one_reply x.replay text p) in
           ((λ j. run (after false false (next (e j))) (drop 1 (e j))), (λ j. replies false false (next (e j))))
 
-  run-bytes : (bs : List ℕ) (x : Reading) (ms : List Memory) →
+  run_bytes : (bs : List ℕ) (x : Reading) (ms : List Memory) →
       let lent = replicate (length (replies_to m x bs)) m ++ ms in
       (fold run_byte (run x lent) bs ≡ run (after_bytes m x bs) ms) × (outputs run_byte run_replies (run x lent) bs ≡ replies_to m x bs)
   unfolding fold outputs
-  run-bytes [] x ms = (refl, refl)
-  run-bytes (b ∷ bs) x ms =
+  run_bytes [] x ms = (refl, refl)
+  run_bytes (b ∷ bs) x ms =
       let y = after_byte m x b in
       let here = byte_replies m x b in
       let more = replies_to m y bs in
@@ -117,8 +117,8 @@ module _ (m : Memory) where
       ap (λ (n : ℕ). replicate n m ++ ms) (length-append here more)
       ∙ ap (λ (l : List Memory). l ++ ms) (sym (replicate-append-replicate (length here) (length more) m))
       ∙ append_assoc (replicate (length here) m) (replicate (length more) m) ms in
-      let f = run-byte x b lent in
-      let r = run-bytes bs y ms in (
+      let f = run_byte_lem x b lent in
+      let r = run_bytes bs y ms in (
         (λ j. fold run_byte (run_byte (run x (e j)) b) bs) ∙ (λ j. fold run_byte (f.0 j) bs) ∙ r.0,
         (λ j. run_replies (run x (e j)) b ++ outputs run_byte run_replies (run_byte (run x (e j)) b) bs)
             ∙ (λ j. f.1 j ++ outputs run_byte run_replies (f.0 j) bs)
@@ -128,23 +128,23 @@ module _ (m : Memory) where
 -- ---- feeds
 
 abbrev reading_in : Handed → Reading
-reading_in c = reading_of c.reader c.hart c.map c.ledger
+reading_in c = reading_of c.reader c.hart c.map
 
 -- what a feed leaves is what the bytes that it takes leave, and its answers are theirs
 feed_read : (c : Handed) (f : Feed)
     → (reading_in (handed_after c f) ≡ after_bytes f.memory (reading_in c) (taken_from c f)) × (answers_to c f ≡ replies_to f.memory (reading_in c) (taken_from c f))
-unfolding fed fed_ledger handed_after taken_from answers_to
+unfolding fed handed_after taken_from answers_to
 feed_read c f =
     let m = f.memory in
     let x = reading_in c in
     let after = after_feed m x f.room f.scrap in
     let t = taken-read m x f.room f.scrap in
-    let kept = bytes_kept m x (answerable x f.room f.scrap) (reading_kept c.reader c.hart c.map c.ledger) in
+    let kept = bytes_kept m x (answerable x f.room f.scrap) (reading_kept c.reader c.hart c.map) in
     (reading-back after kept ∙ sym t.0, sym t.1)
 
-lent_count : (c : Handed) (f : Feed) → lent_at c f ≡ replicate (length (answers_to c f)) f.memory
+lent-count : (c : Handed) (f : Feed) → lent_at c f ≡ replicate (length (answers_to c f)) f.memory
 unfolding fed lent_at answers_to
-lent_count c f = refl
+lent-count c f = refl
 
 run_feed : (c : Handed) (f : Feed) (ms : List Memory)
     → (fold run_byte (run (reading_in c) (lent_at c f ++ ms)) (taken_from c f) ≡ run (reading_in (handed_after c f)) ms)
@@ -154,9 +154,9 @@ run_feed c f ms =
     let x = reading_in c in
     let bs = taken_from c f in
     let r = feed_read c f in
-    let b = run-bytes m bs x ms in
+    let b = run_bytes m bs x ms in
     let e : lent_at c f ++ ms ≡ replicate (length (replies_to m x bs)) m ++ ms =
-    ap (λ (l : List Memory). l ++ ms) (lent_count c f ∙ ap (λ (l : List Reply). replicate (length l) m) r.1) in (
+    ap (λ (l : List Memory). l ++ ms) (lent-count c f ∙ ap (λ (l : List Reply). replicate (length l) m) r.1) in (
       (λ j. fold run_byte (run x (e j)) bs) ∙ b.0 ∙ ap (λ (y : Reading). run y ms) (sym r.0),
       (λ j. outputs run_byte run_replies (run x (e j)) bs) ∙ b.1 ∙ sym r.1,
     )
@@ -185,15 +185,7 @@ run_feeds (f ∷ fs) c ms =
 
 abbrev ends : List Reply → Reading → Outcome
 ends answers x =
-    record {
-      answers = answers;
-      hart = x.replay.hart;
-      map = x.replay.map;
-      ledger = x.replay.ledger;
-      number = x.replay.number;
-      stopped = x.replay.stopped;
-      left = x.left;
-    }
+    record { answers = answers; hart = x.replay.hart; map = x.replay.map; number = x.replay.number; stopped = x.replay.stopped; left = x.left }
 
 -- bytes in a row, with their memories
 abbrev throughout : Reading → List ℕ → List Memory → Outcome
@@ -215,7 +207,7 @@ scrap-taken c f h = go (after_feed f.memory x f.room f.scrap).replay.stopped
     x = reading_in c
 
     front : answerable x f.room f.scrap ≡ f.scrap
-    front = take_all ((60 * f.room + 59) - length x.left) f.scrap (omega (arith, h, (reading_kept c.reader c.hart c.map c.ledger).short))
+    front = take_all ((60 * f.room + 59) - length x.left) f.scrap (omega (arith, h, (reading_kept c.reader c.hart c.map).short))
 
     go : (s : Bool) → take (cond s (length f.scrap) (length (answerable x f.room f.scrap))) f.scrap ≡ f.scrap
     go true = take-length f.scrap

@@ -1,19 +1,14 @@
 -- The lines behind those of the records.
-use Rattle.std.proofs.Common.{◌≡◌, ℕ, ◌+◌, ◌-◌, ◌*◌, ◌<◌, ◌≤◌, min, Bool, true, false, cond, eqb, List, [], ◌∷◌, ◌++◌, length, get_or, take, drop, sym, refl, ap, ◌∙◌, append_assoc, append-nil, zero-add, add-one, arith, length-append, length-drop, drop_of_length-le, length-take, take_all, take-suc, drop-drop, le-leb}
-use lib.Seq.{sets, sets-eq}
+use Rattle.std.proofs.Common.{◌≡◌, ℕ, ◌+◌, ◌*◌, ◌<◌, ◌≤◌, min, Bool, true, false, cond, eqb, List, [], ◌∷◌, ◌++◌, length, get_or, take, sym, refl, ap, ◌∙◌, append_assoc, append-nil, add-one, arith, length-append, length-take, take-suc}
 use Rattle.map.specs.declared.Range.{Range}
 use Rattle.map.specs.declared.Map.{Map}
 use Rattle.map.specs.Lookup.{ranges_in}
 use Rattle.lines.specs.Lines.{bytes_of, hex_digits}
-use Rattle.ledger.specs.declared.Ledger.{Ledger}
-use Rattle.ledger_text.specs.LedgerText.{text_of, text_length, written_to, written_length}
-use Rattle.ledger_text.proofs.Laws.{round_trip}
 use Rattle.hart.specs.declared.Hart.{Hart}
-use Rattle.trace.specs.Buffers.{Put}
 use Rattle.trace.specs.Answers.{decimal, numbered_line}
 use Rattle.trace.specs.SavedTexts.{state_text}
-use Rattle.trace.specs.Endings.{owner_text, range_line, range_lines, ending, stop_line, meter_ending}
-use Rattle.trace.proofs.Writing.{decimal-length, hex_length, numbered_length, broken-length}
+use Rattle.trace.specs.Endings.{owner_text, range_line, range_lines, ending}
+use Rattle.trace.proofs.Writing.{decimal-length, hex_length, numbered_length}
 use Rattle.trace.proofs.SavedTexts.{state-length}
 
 -- ---- ranges
@@ -77,59 +72,3 @@ ending-length h map left =
       ranges-length map,
       numbered_length name left,
     )
-
--- ---- the meter's
-
-pub stop-length : (stopped : Bool) (number : ℕ) → length (stop_line stopped number) ≤ 64
-stop-length true number = broken-length number
-stop-length false number = omega arith
-
-pub ledger-length : (l : Ledger) → length (text_of l) ≡ 295
-ledger-length l = round_trip.sized l
-
-pub meter_length : (stopped : Bool) (number : ℕ) (l : Ledger) (h : Hart) (left : ℕ) → length (meter_ending stopped number l h left) ≤ 4096
-unfolding meter_ending bytes_of
-meter_length stopped number l h left =
-    let name = bytes_of "left " in
-    let last = numbered_line name left in
-    omega (
-      arith,
-      length-append (stop_line stopped number) (text_of l ++ (state_text h ++ last)),
-      stop-length stopped number,
-      length-append (text_of l) (state_text h ++ last),
-      ledger-length l,
-      length-append (state_text h) last,
-      state-length h,
-      numbered_length name left,
-    )
-
--- the text of a ledger at the front of a buffer that has room for it
-pub ledger-put : (l : Ledger) (b : List ℕ) {after : List ℕ} {r : ℕ} → 295 ≤ length b → r ≡ written_length b → after ≡ written_to l b → Put b 0 (text_of l) after r
-unfolding written_to
-ledger-put l b {after} {r} room n e =
-    let fits = le-leb text_length (length b) room in
-    let size = ledger-length l in
-    let text : after ≡ text_of l ++ drop text_length b = e ∙ rw fits in
-    let count : r ≡ text_length = n ∙ rw fits in record {
-      bytes = text ∙ sym (sets-eq (text_of l) b 0 (omega (arith, size)) ∙ ap (λ (k : ℕ). text_of l ++ drop k b) (zero-add (length (text_of l)) ∙ size));
-      behind = count ∙ sym (zero-add (length (text_of l)) ∙ size);
-    }
-
--- a text at the front of the part of a buffer from a place on stands at that place
-pub put_part : (b : List ℕ) (p : ℕ) (text : List ℕ) {after : List ℕ} {r : ℕ} → p + length text ≤ length b
-    → Put (take (length b - p) (drop p b)) 0 text after r → Put b p text (take p b ++ (after ++ drop (length b - p) (drop p b))) (p + r)
-put_part b p text {after} {r} fits put =
-    let rest = drop p b in
-    let n : length rest ≡ length b - p = length-drop p b in
-    let whole : take (length b - p) rest ≡ rest = take_all (length b - p) rest (omega (arith, n)) in
-    let none : drop (length b - p) rest ≡ [] = drop_of_length-le rest {i = length b - p} (omega (arith, n)) in
-    let behind : drop (0 + length text) rest ≡ drop (p + length text) b = ap (λ (k : ℕ). drop k rest) (zero-add (length text)) ∙ drop-drop (length text) p b in
-    let written : after ≡ text ++ drop (p + length text) b =
-    put.bytes ∙ (λ j. sets (whole j) 0 text) ∙ sets-eq text rest 0 (omega (arith, n)) ∙ (λ j. text ++ behind j) in record {
-      bytes =
-          (λ j. take p b ++ (written j ++ none j))
-          ∙ ap (λ (l : List ℕ). take p b ++ l) (append-nil (text ++ drop (p + length text) b))
-          ∙ sym (append_assoc (take p b) text (drop (p + length text) b))
-          ∙ sym (sets-eq text b p fits);
-      behind = omega (arith, put.behind);
-    }

@@ -6,8 +6,6 @@ use Rattle.bits.specs.Fold.{fold, outputs}
 use Rattle.bits.proofs.Conjunction.{neither}
 use Rattle.paging.specs.Memory.{Memory}
 use Rattle.state.specs.Words.{state_of}
-use Rattle.ledger.specs.Words.{lent_by, words_left}
-use Rattle.engine.proofs.RunLaws.{still_kept}
 use Rattle.map.specs.declared.Map.{Map}
 use Rattle.hart.specs.declared.Hart.{Hart}
 use Rattle.hart.specs.declared.Mapped.{Mapped}
@@ -19,8 +17,8 @@ use Rattle.trace.specs.declared.Progress.{Progress}
 use Rattle.trace.specs.declared.Fed.{Fed}
 use Rattle.trace.specs.Replies.{Reply, reply_numbers, written, text_by, width_of}
 use Rattle.trace.specs.Reading.{Replay, Reading, reading, after_record, record_replies}
-use Rattle.trace.specs.Feeding.{left_of, reading_of, reader_of, after_feed, feed_replies, taken_by, reading_from, FedBy, fed, fed_ledger, feed_words}
-use Rattle.trace.specs.Batches.{records_of, after_records, records_replies, Slices, slices, carried_by, Batched, Batch}
+use Rattle.trace.specs.Feeding.{left_of, reading_of, reader_of, after_feed, feed_replies, taken_by, FedBy, fed, feed_words}
+use Rattle.trace.specs.Batches.{records_of, after_records, records_replies, carried_by, Batched}
 use Rattle.trace.specs.Parts.{unopened, opening_of, wholes_in, further_in, carrying, progressed, closed, remade}
 use Rattle.trace.proofs.Readers.{front_sets}
 use Rattle.trace.proofs.Bytes.{ending}
@@ -75,10 +73,10 @@ most_filled false e h c = omega arith
 most_filled true e h c = omega arith
 
 -- what the first batch has filled
-pub batch_filled : (m : Memory) (o : Bool) (n : ℕ) (bytes : List ℕ) (map : Map) (start : Cursor) (before : Slices) (end : Cursor) (after : Slices)
-    → start.filled ≡ 0 → Batched m o (records_of n bytes) map start before end after
-    → (end.filled ≤ width_of o * n) × (length after.output ≡ length before.output)
-batch_filled m o n bytes map start before end after z b =
+pub batch_filled : (m : Memory) (o : Bool) (n : ℕ) (bytes : List ℕ) (map : Map) (start : Cursor) (before buffer : List ℕ) (end : Cursor) (words after : List ℕ)
+    → start.filled ≡ 0 → Batched m o (records_of n bytes) map start before buffer end words after
+    → (end.filled ≤ width_of o * n) × (length after ≡ length buffer)
+batch_filled m o n bytes map start before buffer end words after z b =
     let replies = records_replies m (carried_by start before map) (records_of n bytes) in (
       most_filled o (b.put.behind ∙ ap (λ (i : ℕ). i + length (written (text_by o) replies)) z) (written-length o replies) (records_count m n (carried_by start before map) bytes),
       put-length b.put,
@@ -168,7 +166,7 @@ module _ (m : Memory) (r : Replay) (carried : List ℕ) (size : length carried �
 -- ---- the call
 
 -- what `close` gives, by whether a broken record went before
-module _ (m : Memory) (carried : List ℕ) (kept : ℕ) (scrap : List ℕ) (end : ℕ) (c : Cursor) (after : Slices) (map : Map) where
+module _ (m : Memory) (carried : List ℕ) (kept : ℕ) (scrap : List ℕ) (end : ℕ) (c : Cursor) (words : List ℕ) (map : Map) where
   abbrev further : ℕ
   further = further_in (length scrap - end) kept
 
@@ -178,7 +176,7 @@ module _ (m : Memory) (carried : List ℕ) (kept : ℕ) (scrap : List ℕ) (end 
   abbrev closed_by : Bool → Progress
   closed_by b = cond b (progressed c (carrying [] c.number true) (length scrap)) (progressed c (carrying over c.number false) (end + further))
 
-  closed-reader : (b : Bool) → c.stopped ≡ b → (closed_by b).reader ≡ reader_of (cond b (reading (carried_by c after map) []) (reading (carried_by c after map) over))
+  closed-reader : (b : Bool) → c.stopped ≡ b → (closed_by b).reader ≡ reader_of (cond b (reading (carried_by c words map) []) (reading (carried_by c words map) over))
   closed-reader true h = λ j. carrying [] c.number (sym h j)
   closed-reader false h = λ j. carrying over c.number (sym h j)
 
@@ -190,68 +188,61 @@ module _ (m : Memory) (carried : List ℕ) (kept : ℕ) (scrap : List ℕ) (end 
   closed-rest true = (refl, refl)
   closed-rest false = (refl, refl)
 
-module _ (m : Memory) (o : Bool) (rd : Reader) (map : Map) (room : ℕ) (scrap : List ℕ) (before : Slices) (size : length rd.carried ≡ 59) (held : Bool) where
+module _ (m : Memory) (o : Bool) (rd : Reader) (map : Map) (room : ℕ) (scrap before buffer : List ℕ) (size : length rd.carried ≡ 59) (held : Bool) where
   abbrev pub begin : Cursor
   begin = record { held = held; remap = false; number = rd.number; stopped = rd.stopped; filled = 0 }
 
-  pub fed_by : {count n : ℕ} {op : Opening} {first last : Cursor} {middle after : Slices} {p : Progress}
+  pub fed_by : {count n : ℕ} {op : Opening} {first last : Cursor} {middle words between after : List ℕ} {p : Progress}
       → count ≡ min rd.count 59
       → op ≡ opening_of rd.carried count scrap room
-      → Batch m o (records_of op.heads op.text) begin before first middle
+      → Batched m o (records_of op.heads op.text) map begin before buffer first middle between
       → n ≡ wholes_in (room - op.heads) (length scrap - op.at) op.kept
-      → Batch m o (records_of n (drop op.at scrap)) first middle last after
+      → Batched m o (records_of n (drop op.at scrap)) map first middle between last words after
       → p ≡ closed rd.carried op.kept scrap (op.at + 60 * n) last
-      → FedBy m o rd map room scrap before p after
-  fed_by {count} {n} {op} {first} {last} {middle} {after} {p} ec eo b₀ en c₀ ep =
-      let b = b₀.batched map in
-      let c = c₀.batched map in
+      → FedBy m o rd map room scrap before buffer p words after
+  fed_by {count} {n} {op} {first} {last} {middle} {words} {between} {after} {p} ec eo b en c ep =
       let text = text_by o in
       let least = min rd.count 59 in
-      let start = (reading_from rd before map).replay in
+      let start = (reading_of rd (hart_with (state_of before)) map).replay in
       let end = op.at + 60 * n in
       let t = further_in (length scrap - end) op.kept in
       let texts = records_of n (drop op.at scrap) in
       let parts = parts_by m start rd.carried size least room (omega arith) scrap n end t op (eo ∙ (λ j. opening_of rd.carried (ec j) scrap room)) (en, refl, refl)
       rd.stopped refl in
-      let left = carried_by last after map in
+      let left = carried_by last words map in
       let more = take op.kept rd.carried ++ take t (drop end scrap) in
       let came = (λ j. after_records m (b.replay j) texts) ∙ c.replay in
-      let ends = parts.after ∙ (λ j. ending m (came j) more) in
-      let replay = ap (λ (y : Reading). y.replay) ends ∙ ended-replay m left more in
-      let rest = closed-rest m rd.carried op.kept scrap end last after map last.stopped in
+      let after = parts.after ∙ (λ j. ending m (came j) more) in
+      let replay = ap (λ (y : Reading). y.replay) after ∙ ended-replay m left more in
+      let rest = closed-rest m rd.carried op.kept scrap end last words map last.stopped in
       let both = put_both b.put c.put in
       let given = records_replies m start (records_of op.heads op.text) in
       let said : written text given ++ written text (records_replies m (carried_by first middle map) texts) ≡ written text (feed_replies m (reading start (left_of rd)) room scrap) =
       (λ j. written text given ++ written text (records_replies m (sym b.replay j) texts))
       ∙ sym (written_append text given (records_replies m (after_records m start (records_of op.heads op.text)) texts)) ∙ sym (ap (written text) parts.given) in record {
-        reader = ap (λ (x : Progress). x.reader) ep ∙ closed-reader m rd.carried op.kept scrap end last after map last.stopped refl ∙ sym (ap reader_of ends);
+        reader = ap (λ (x : Progress). x.reader) ep ∙ closed-reader m rd.carried op.kept scrap end last words map last.stopped refl ∙ sym (ap reader_of after);
         hart = sym (ap (λ (y : Replay). y.hart) replay);
-        map = (λ j. cond ((ap (λ (x : Progress). x.remap) ep ∙ rest.1) j) (map_for (state_of after.words).pmp) map) ∙ sym (ap (λ (y : Replay). y.map) replay);
-        ledger = still_kept before.ledger middle.ledger after.ledger b₀.ledger c₀.ledger refl
-            ∙ ap (words_left before.ledger) (sym (ap (λ (y : Replay). y.ledger) replay));
-        taken = ap (λ (x : Progress). x.taken) ep ∙ closed-taken m rd.carried op.kept scrap end last after map last.stopped
+        map = (λ j. cond ((ap (λ (x : Progress). x.remap) ep ∙ rest.1) j) (map_for (state_of words).pmp) map) ∙ sym (ap (λ (y : Replay). y.map) replay);
+        taken = ap (λ (x : Progress). x.taken) ep ∙ closed-taken m rd.carried op.kept scrap end last words map last.stopped
             ∙ sym (parts.taken ∙ (λ j. cond (came j).stopped (length scrap) (end + t)));
         put = record {
-          bytes = both.bytes ∙ ap (sets before.output 0) said;
+          bytes = both.bytes ∙ ap (sets buffer 0) said;
           behind = ap (λ (x : Progress). x.filled) ep ∙ rest.0 ∙ both.behind ∙ ap (λ (l : List ℕ). 0 + length l) said;
         };
       }
 
 -- ---- by value
 
-pub fed_value : (m : Memory) (rd : Reader) (h : Hart) (map : Map) (scrap ledger answers : List ℕ) {words : List ℕ} {after : Slices} {p : Progress} {back : Mapped}
-    → state_of words ≡ h.state → FedBy m false rd map (length answers / 4) scrap (slices words ledger answers) p after
-    → back ≡ remade (state_of after.words) p.remap map →
+pub fed_value : (m : Memory) (rd : Reader) (h : Hart) (map : Map) (scrap answers : List ℕ) {words left after : List ℕ} {p : Progress} {back : Mapped} → state_of words ≡ h.state
+    → FedBy m false rd map (length answers / 4) scrap words answers p left after → back ≡ remade (state_of left) p.remap map
+    → (◌≡◌ {A = Fed} (record { reader = p.reader; hart = back.hart; map = back.map; taken = p.taken; answered = p.filled / 4 }) (fed m rd h map (length answers / 4) scrap))
+    × (after ≡ feed_words m rd h map scrap answers)
+unfolding fed feed_words
+fed_value m rd h map scrap answers {words} {left} {after} {p} {back} e f b =
     let room = length answers / 4 in
-    (◌≡◌ {A = Fed} (record { reader = p.reader; hart = back.hart; map = back.map; taken = p.taken; answered = p.filled / 4 }) (fed m rd h map (lent_by ledger) room scrap))
-    × ((after.ledger ≡ words_left ledger (fed_ledger m rd h map (lent_by ledger) room scrap)) × (after.output ≡ feed_words m rd h map (lent_by ledger) scrap answers))
-unfolding fed fed_ledger feed_words
-fed_value m rd h map scrap ledger answers {words} {after} {p} {back} e f b =
-    let room = length answers / 4 in
-    let l = lent_by ledger in
-    let same : after_feed m (reading_of rd (hart_with (state_of words)) map l) room scrap ≡ after_feed m (reading_of rd h map l) room scrap =
-    λ j. after_feed m (reading_of rd (hart_with (e j)) map l) room scrap in
-    let replies = feed_replies m (reading_of rd (hart_with (state_of words)) map l) room scrap in
+    let same : after_feed m (reading_of rd (hart_with (state_of words)) map) room scrap ≡ after_feed m (reading_of rd h map) room scrap =
+    λ j. after_feed m (reading_of rd (hart_with (e j)) map) room scrap in
+    let replies = feed_replies m (reading_of rd (hart_with (state_of words)) map) room scrap in
     let count : p.filled / 4 ≡ length replies = omega (arith, f.put.behind, written-words replies) in
     let hart = ap (λ (x : Mapped). x.hart) b ∙ f.hart in
     let kept = ap (λ (x : Mapped). x.map) b ∙ f.map in (
@@ -260,11 +251,8 @@ fed_value m rd h map scrap ledger answers {words} {after} {p} {back} e f b =
             reader = reader_of (same j);
             hart = (same j).replay.hart;
             map = (same j).replay.map;
-            taken = taken_by m (reading_of rd (hart_with (e j)) map l) room scrap;
-            answered = length (feed_replies m (reading_of rd (hart_with (e j)) map l) room scrap);
+            taken = taken_by m (reading_of rd (hart_with (e j)) map) room scrap;
+            answered = length (feed_replies m (reading_of rd (hart_with (e j)) map) room scrap);
           }),
-      (
-        f.ledger ∙ (λ j. words_left ledger (same j).replay.ledger),
-        f.put.bytes ∙ (λ j. sets answers 0 (written reply_numbers (feed_replies m (reading_of rd (hart_with (e j)) map l) room scrap))),
-      ),
+      f.put.bytes ∙ (λ j. sets answers 0 (written reply_numbers (feed_replies m (reading_of rd (hart_with (e j)) map) room scrap))),
     )

@@ -16,7 +16,5 @@ pub mod FeedLaws
 pub mod CutAnywhere
 pub mod Taking
 pub mod RefusalEight
-pub mod Lending
 pub mod SessionLaws
 pub mod Wholeness
-pub mod InParts

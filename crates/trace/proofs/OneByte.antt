@@ -1,13 +1,14 @@
 -- What one byte does: it is ignored, kept, or completes a record. And what follows for bytes in a row. Assumes nothing.
 use Rattle.std.proofs.Common.{◌≡◌, ℕ, suc, ◌+◌, ◌-◌, ◌*◌, ◌%◌, ◌^◌, ◌<◌, ◌≤◌, Bool, true, false, ltb, List, [], ◌∷◌, ◌++◌, length, take, drop, sym, refl, ap, ◌∙◌, subst, append-nil, arith, length-append, drop-drop, drop_at, ltb-false, ltb-true, le-ltb, lt-ltb}
 use mathlib.Core.Bool.{false≢true}
-use mathlib.Core.Option.{Option, some, none}
 use lib.Seq.{append_snoc}
 use Rattle.bits.specs.Fold.{fold, outputs}
+use Rattle.steps.specs.declared.Decoded.{Decoded}
+use Rattle.steps.specs.declared.Decoded.TheVariants.{Formed, Nothing}
 use Rattle.paging.specs.Memory.{Memory}
-use Rattle.ledger.specs.Given.{Given}
+use Rattle.records.specs.Records.{read_step}
 use Rattle.trace.specs.Replies.{Reply, Broken}
-use Rattle.trace.specs.Reading.{Reading, reading, stopped_at, read_step, after_asked, reply_to, after_record, record_replies, after_byte, byte_replies, after_bytes, replies_to}
+use Rattle.trace.specs.Reading.{Reading, reading, stopped_at, after_decoded, reply_to, after_record, record_replies, after_byte, byte_replies, after_bytes, replies_to}
 
 module _ (m : Memory) where
   -- ---- one byte
@@ -22,8 +23,8 @@ module _ (m : Memory) where
   byte-short x b h l = (rw (h, lt-ltb (length x.left) 59 l), rw (h, lt-ltb (length x.left) 59 l))
 
   pub byte_full : (x : Reading) (b : ℕ) → x.replay.stopped ≡ false → 59 ≤ length x.left →
-      let d = read_step x.replay.ledger (x.left ++ b ∷ []) in
-      (after_byte m x b ≡ reading (after_asked m x.replay d) []) × (byte_replies m x b ≡ reply_to m x.replay d ∷ [])
+      let d = read_step (x.left ++ b ∷ []) in
+      (after_byte m x b ≡ reading (after_decoded m x.replay d) []) × (byte_replies m x b ≡ reply_to m x.replay d ∷ [])
   unfolding after_byte byte_replies after_record record_replies
   byte_full x b h l = (rw (h, le-ltb (length x.left) 59 l), rw (h, le-ltb (length x.left) 59 l))
 
@@ -34,7 +35,7 @@ module _ (m : Memory) where
 
     pub byte_cases : (x.replay.stopped ≡ true → P x [])
         → (x.replay.stopped ≡ false → length x.left < 59 → P (reading x.replay (x.left ++ b ∷ [])) [])
-        → (x.replay.stopped ≡ false → 59 ≤ length x.left → (d : Option Given) → P (reading (after_asked m x.replay d) []) (reply_to m x.replay d ∷ []))
+        → (x.replay.stopped ≡ false → 59 ≤ length x.left → (d : Decoded) → P (reading (after_decoded m x.replay d) []) (reply_to m x.replay d ∷ []))
         → P (after_byte m x b) (byte_replies m x b)
     byte_cases ignored kept judged = go x.replay.stopped refl (ltb (length x.left) 59) refl
       where
@@ -43,8 +44,8 @@ module _ (m : Memory) where
         go false p true q = let l = ltb-true (length x.left) 59 q in along (reading x.replay (x.left ++ b ∷ [])) [] (byte-short x b p l) (kept p l)
         go false p false q =
             let l = ltb-false (length x.left) 59 q in
-            let d = read_step x.replay.ledger (x.left ++ b ∷ []) in
-            along (reading (after_asked m x.replay d) []) (reply_to m x.replay d ∷ []) (byte_full x b p l) (judged p l d)
+            let d = read_step (x.left ++ b ∷ []) in
+            along (reading (after_decoded m x.replay d) []) (reply_to m x.replay d ∷ []) (byte_full x b p l) (judged p l d)
 
   -- ---- bytes after refusal 8
 
@@ -77,7 +78,7 @@ module _ (m : Memory) where
       subst (λ (t : List ℕ). Left t (after_bytes m y bs) (length (replies_to m y bs))) (append_snoc x.left b bs)
       (left_behind bs y (omega (arith, length-append x.left (b ∷ []))) e))
       (λ p l d e.
-      let y = reading (after_asked m x.replay d) [] in
+      let y = reading (after_decoded m x.replay d) [] in
       let n = length (replies_to m y bs) in
       let r = left_behind bs y (omega arith) e in
       let t : length (x.left ++ b ∷ []) ≡ 60 = omega (arith, length-append x.left (b ∷ [])) in
@@ -103,18 +104,18 @@ module _ (m : Memory) where
       (λ p l d. judged d (λ y t. number_on bs y t))
       h
     where
-      judged : (d : Option Given) →
-          let y = reading (after_asked m x.replay d) [] in
+      judged : (d : Decoded) →
+          let y = reading (after_decoded m x.replay d) [] in
           ((z : Reading) → z.replay.number < 2 ^ 64 → (after_bytes m z bs).replay.stopped ≡ false
           → (after_bytes m z bs).replay.number ≡ (z.replay.number + length (replies_to m z bs)) % 2 ^ 64)
           → (after_bytes m y bs).replay.stopped ≡ false → (after_bytes m y bs).replay.number ≡ (x.replay.number + suc (length (replies_to m y bs))) % 2 ^ 64
-      judged (some g) on e = omega (arith, on (reading (after_asked m x.replay (some g)) []) (omega arith) e)
-      judged none on e = absurd (went_on (reading (stopped_at x.replay) []) bs refl e)
+      judged (Formed step) on e = omega (arith, on (reading (after_decoded m x.replay (Formed step)) []) (omega arith) e)
+      judged Nothing on e = absurd (went_on (reading (stopped_at x.replay) []) bs refl e)
 
   -- ---- where refusal 8 comes
 
   pub record Stops (answers : List Reply) (from to : ℕ) : Type 0 where
-    pub nonempty : 1 ≤ length answers
+    pub some : 1 ≤ length answers
     pub last : answers ≡ take (length answers - 1) answers ++ Broken to ∷ []
     pub number : from < 2 ^ 64 → to ≡ (from + (length answers - 1)) % 2 ^ 64
 
@@ -129,26 +130,26 @@ module _ (m : Memory) where
       (λ p l d. judged d (λ y t. stops bs y t))
       h
     where
-      judged : (d : Option Given) →
-          let y = reading (after_asked m x.replay d) [] in
+      judged : (d : Decoded) →
+          let y = reading (after_decoded m x.replay d) [] in
           ((z : Reading) → z.replay.stopped ≡ false → (after_bytes m z bs).replay.stopped ≡ true
           → Stops (replies_to m z bs) z.replay.number (after_bytes m z bs).replay.number)
           → (after_bytes m y bs).replay.stopped ≡ true → Stops (reply_to m x.replay d ∷ replies_to m y bs) x.replay.number (after_bytes m y bs).replay.number
-      judged (some g) on e =
-          let y = reading (after_asked m x.replay (some g)) [] in
+      judged (Formed step) on e =
+          let y = reading (after_decoded m x.replay (Formed step)) [] in
           let l = replies_to m y bs in
-          let a = reply_to m x.replay (some g) in
+          let a = reply_to m x.replay (Formed step) in
           let r = on y refl e in
-          let k : suc (length l) - 1 ≡ suc (length l - 1) = omega (arith, r.nonempty) in
+          let k : suc (length l) - 1 ≡ suc (length l - 1) = omega (arith, r.some) in
           record {
-            nonempty = omega arith;
+            some = omega arith;
             last = ap (λ (t : List Reply). a ∷ t) r.last ∙ ap (λ (i : ℕ). take i (a ∷ l) ++ Broken (after_bytes m y bs).replay.number ∷ []) (sym k);
-            number = λ b. r.number (omega arith) ∙ omega (arith, r.nonempty);
+            number = λ b. r.number (omega arith) ∙ omega (arith, r.some);
           }
-      judged none on e =
+      judged Nothing on e =
           let y = reading (stopped_at x.replay) [] in
           let i = bytes-ignored y refl bs in
           let n = x.replay.number in
-          let base : Stops (Broken n ∷ []) n n = record { nonempty = omega arith; last = refl; number = λ b. omega arith } in
+          let base : Stops (Broken n ∷ []) n n = record { some = omega arith; last = refl; number = λ b. omega arith } in
           subst (λ (l : List Reply). Stops (Broken n ∷ l) n (after_bytes m y bs).replay.number) (sym i.1)
           (subst (λ (z : Reading). Stops (Broken n ∷ []) n z.replay.number) (sym i.0) base)

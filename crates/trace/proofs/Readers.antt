@@ -1,12 +1,10 @@
 -- A reader and what it stands for: fewer than 60 bytes are carried, none after refusal 8, and a reader made of a reading is read as that. Assumes nothing.
 use Rattle.std.proofs.Common.{◌≡◌, ℕ, ◌+◌, ◌≤◌, min, Bool, true, false, cond, ltb, List, [], ◌∷◌, ◌++◌, length, take, drop, replicate, sym, refl, ap, ◌∙◌, arith, length-append, length-take, take_at, ltb-true}
 use mathlib.Core.Bool.{false≢true}
-use mathlib.Core.Option.{Option}
 use lib.ListN.{length-replicate}
 use lib.Seq.{sets, sets-eq}
 use Rattle.bits.proofs.FoldLaws.{fold-keeps}
 use Rattle.paging.specs.Memory.{Memory}
-use Rattle.ledger.specs.declared.Ledger.{Ledger}
 use Rattle.map.specs.declared.Map.{Map}
 use Rattle.hart.specs.declared.Hart.{Hart}
 use Rattle.trace.specs.declared.Reader.{Reader}
@@ -22,13 +20,13 @@ pub record Kept (x : Reading) : Type 0 where
   pub short : length x.left ≤ 59
   pub none : x.replay.stopped ≡ true → x.left ≡ []
 
-pub reading_kept : (r : Reader) (h : Hart) (map : Map) (l : Option Ledger) → Kept (reading_of r h map l)
-reading_kept r h map l = go r.stopped
+pub reading_kept : (r : Reader) (h : Hart) (map : Map) → Kept (reading_of r h map)
+reading_kept r h map = go r.stopped
   where
     front : List ℕ
     front = take (min r.count 59) r.carried
 
-    go : (b : Bool) → Kept (reading (record { hart = h; map = map; ledger = l; number = r.number; stopped = b }) (cond b [] front))
+    go : (b : Bool) → Kept (reading (record { hart = h; map = map; number = r.number; stopped = b }) (cond b [] front))
     go true = record { short = omega arith; none = λ e. refl }
     go false = record { short = omega (arith, length-take (min r.count 59) r.carried); none = λ e. absurd (false≢true e) }
 
@@ -60,5 +58,5 @@ left_back x k = go x.replay.stopped refl
     go true p = sym (k.none p)
     go false p = ap (λ (i : ℕ). take i (sets (replicate 59 0) 0 x.left)) n ∙ front_sets 59 x.left k.short
 
-pub reading-back : (x : Reading) → Kept x → reading_of (reader_of x) x.replay.hart x.replay.map x.replay.ledger ≡ x
+pub reading-back : (x : Reading) → Kept x → reading_of (reader_of x) x.replay.hart x.replay.map ≡ x
 reading-back x k = ap (reading x.replay) (left_back x k)

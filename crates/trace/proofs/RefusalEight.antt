@@ -1,7 +1,6 @@
 -- Refusal 8 comes exactly where a record names no step. Assumes nothing.
-use Rattle.std.proofs.Common.{◌≡◌, ℕ, zero, suc, ◌^◌, ◌<◌, ◌≤◌, Bool, true, false, cond, not, ◌&&◌, ◌||◌, eqb, ltb, leb, List, [], ◌∷◌, ◌++◌, length, get_or, sym, refl, ap, ◌∙◌, true≢false, arith, eq-eqb, eqb-true, le-leb, leb-false, leb-true}
+use Rattle.std.proofs.Common.{◌≡◌, ℕ, zero, suc, ◌^◌, ◌<◌, ◌≤◌, Bool, true, false, cond, not, ◌&&◌, ◌||◌, eqb, ltb, leb, List, [], ◌∷◌, ◌++◌, length, get_or, sym, refl, ap, ◌∙◌, true≢false, arith, eq-eqb, ne_eqb, eqb-true, leb-false, leb-true}
 use mathlib.Core.Bool.{false≢true}
-use mathlib.Core.Option.{Option, some, none}
 use Rattle.bits.specs.Lists.{Words}
 use Rattle.bits.specs.Mask.{within}
 use Rattle.bits.specs.Same.{same_list}
@@ -13,6 +12,8 @@ use Rattle.pmp.specs.Number.{fault_cause}
 use Rattle.lines.specs.Lines.{lines_of, lines_length, words_in, is_text, bytes_of, hex_digits, line_of, number_at, places_of}
 use Rattle.lines.proofs.Back.{words_found, text-only}
 use Rattle.lines.proofs.Reading.{lines-length}
+use Rattle.steps.specs.declared.Decoded.{Decoded}
+use Rattle.steps.specs.declared.Decoded.TheVariants.{Formed, Nothing}
 use Rattle.steps.specs.declared.Operation.{Operation}
 use Rattle.steps.specs.declared.Event.{Event}
 use Rattle.steps.specs.declared.Event.TheVariants.{Raise, Lines, TakeInterrupt, Mret, Sret, Wfi, Ecall, Ebreak, Advance, Elapsed}
@@ -20,7 +21,8 @@ use Rattle.steps.specs.declared.Step.{Step}
 use Rattle.steps.specs.declared.Step.TheVariants.{Reset, Csr, Access as AccessStep, Event as EventStep}
 use Rattle.steps.specs.declared.Answer.{Answer}
 use Rattle.steps.specs.declared.Answer.TheVariants.{Done, DoneValue, DoneFlag, Granted, Trapped, Refused}
-use Rattle.steps.specs.Decode.{decoded}
+use Rattle.steps.specs.Decode.{decoded, is_access}
+use Rattle.steps.proofs.NumberLaws.{number-formed}
 use Rattle.registers.specs.Masks.{lines_mask}
 use Rattle.protection.specs.Read.{is_pmp}
 use Rattle.paging.specs.declared.Context.{Context}
@@ -35,24 +37,16 @@ use Rattle.trap.specs.declared.Outcome.{Outcome}
 use Rattle.trap.specs.Enter.{raised_by}
 use Rattle.trap.specs.Events.{event_step}
 use Rattle.trap.proofs.Quiet.{refuses, Quiet, event_quiet}
-use Rattle.ledger.specs.declared.Ledger.{Ledger}
-use Rattle.ledger.specs.declared.MeteredStep.{MeteredStep}
-use Rattle.ledger.specs.declared.MeteredStep.TheVariants.{Step as Plain, Tenant}
-use Rattle.ledger.specs.Rules.{names_tenant, overfull, refusal_by}
-use Rattle.ledger.specs.Given.{Given, Unmetered, Metered, accesses, asked, last_step}
-use Rattle.ledger.proofs.GivenLaws.{asked-formed, asked-none}
 use Rattle.map.specs.declared.Map.{Map}
-use Rattle.engine.specs.Effects.{Effect, effect_of, refused, on_registers, csr_step, access_decided, context_of, access_at, event_effect, effect, is_reset, step_rule}
-use Rattle.engine.specs.Metering.{plainly, ledger_refusal, metered_rule, given_rule}
+use Rattle.engine.specs.Effects.{Effect, refused, on_registers, csr_step, access_decided, context_of, access_at, event_effect, effect, is_reset, step_rule}
 use Rattle.hart.specs.declared.Hart.{Hart}
 use Rattle.hart.specs.declared.Stepped.{Stepped}
-use Rattle.hart.specs.Steps.{stepped_by}
+use Rattle.hart.specs.Steps.{stepped}
 use Rattle.hart.proofs.StepLaws.{step_parts}
-use Rattle.records.specs.declared.Record.TheVariants.{Words as RecordWords, Broken as NoRecord}
-use Rattle.records.specs.Records.{keys, record_of, read_record, ignores_first, ignores_second, unused_are_zero, names_step, read_numbers}
+use Rattle.records.specs.Records.{keys, record_of, read_record, ignores_first, ignores_second, unused_are_zero, record_step, read_step}
 use Rattle.records.proofs.Back.{record_back}
 use Rattle.trace.specs.Replies.{Answered, Broken}
-use Rattle.trace.specs.Reading.{Reading, reading, asked_in, read_step, after_asked, reply_to, after_byte, byte_replies}
+use Rattle.trace.specs.Reading.{Reading, reading, after_decoded, reply_to, after_byte, byte_replies}
 use Rattle.trace.specs.RefusalEight.{Names, NamesNone, Completes, RefusalEight, WorkedRecords}
 use Rattle.trace.proofs.OneByte.{byte-ignored, byte-short, byte_full}
 
@@ -84,16 +78,37 @@ module _ (step a b : ℕ) where
 
 -- ---- step numbers
 
--- with a ledger or without, none is above 18
-last_within : (l : Option Ledger) → last_step l ≤ 18
-last_within none = omega arith
-last_within (some l) = omega arith
+-- no step has a number above 17
+unknown : (step a b : ℕ) → 17 < step → decoded step a b ≡ Nothing
+unfolding decoded
+unknown step a b h =
+    let other : (n : ℕ) → n ≤ 17 → eqb step n ≡ false = λ n l. ne_eqb step n (λ e. omega arith) in
+    rw (
+      other 0 (omega arith),
+      other 1 (omega arith),
+      other 2 (omega arith),
+      other 3 (omega arith),
+      other 4 (omega arith),
+      other 5 (omega arith),
+      other 6 (omega arith),
+      other 7 (omega arith),
+      other 8 (omega arith),
+      other 9 (omega arith),
+      other 10 (omega arith),
+      other 11 (omega arith),
+      other 12 (omega arith),
+      other 13 (omega arith),
+      other 14 (omega arith),
+      other 15 (omega arith),
+      other 16 (omega arith),
+      other 17 (omega arith),
+    )
 
-formed-not : (g : Given) → some g ≡ none → ⊥
-formed-not g e = let z : ◌≡◌ {A = ℕ} 0 1 = cc in absurd (omega arith)
+formed-not : (s : Step) → Formed s ≡ Nothing → ⊥
+formed-not s e = let z : ◌≡◌ {A = ℕ} 0 1 = cc in absurd (omega arith)
 
-formed : (l : Option Ledger) (step a b : ℕ) → step ≤ last_step l → asked l step a b ≡ none → ⊥
-formed l step a b h e = let f = asked-formed l step a b h in formed-not f.given (sym f.formed ∙ e)
+formed : (step a b : ℕ) → step ≤ 17 → decoded step a b ≡ Nothing → ⊥
+formed step a b h e = let f = number-formed step a b h in formed-not f.step (sym f.formed ∙ e)
 
 -- ---- a record's bytes
 
@@ -101,9 +116,9 @@ record_length : lines_length keys ≡ 60
 unfolding keys bytes_of lines_length
 record_length = refl
 
-sixty : (l : Option Ledger) (text : List ℕ) (step a b : ℕ) → Names l text step a b → length text ≡ 60
+sixty : (text : List ℕ) (step a b : ℕ) → Names text step a b → length text ≡ 60
 unfolding record_of
-sixty l text step a b n = ap length n.lines ∙ lines-length keys 0 (step ∷ a ∷ b ∷ []) ∙ record_length
+sixty text step a b n = ap length n.lines ∙ lines-length keys 0 (step ∷ a ∷ b ∷ []) ∙ record_length
 
 -- the three words that a text is searched for
 words-three : (text : List ℕ) → let ws = words_in keys text in Words 3 (get_or ws 0 0 ∷ get_or ws 1 0 ∷ get_or ws 2 0 ∷ [])
@@ -120,44 +135,37 @@ text-three : (text : List ℕ) → is_text keys text ≡ true → let ws = words
 unfolding keys lines_of record_of
 text-three text p = text-only keys text p
 
-module _ (l : Option Ledger) (text : List ℕ) where
-  -- the words of a record that names a step
-  numbers-back : (step a b : ℕ) → Names l text step a b → read_numbers text ≡ RecordWords step a b
-  unfolding read_numbers
-  numbers-back step a b n =
-      let r : read_record text ≡ RecordWords step a b = ap read_record n.lines ∙ record_back step a b n.words in
+module _ (text : List ℕ) where
+  named : (step a b : ℕ) → Names text step a b → read_step text ≡ decoded step a b
+  unfolding read_step record_step
+  named step a b n =
       let u = unused-zero step a b n.first n.second in
-      let k = le-leb step 18 (omega (arith, n.known, last_within l)) in
-      (λ j. cond (names_step (r j)) (r j) NoRecord) ∙ (λ j. cond (u j && k j) (RecordWords step a b) NoRecord)
+      ap (λ (t : List ℕ). record_step (read_record t)) n.lines ∙ ap record_step (record_back step a b n.words)
+      ∙ (λ j. cond (u j) (decoded step a b) Nothing)
 
-  named : (step a b : ℕ) → Names l text step a b → read_step l text ≡ asked l step a b
-  named step a b n = ap (asked_in l) (numbers-back step a b n)
-
-  only : read_step l text ≡ none → NamesNone l text
-  only e step a b n = formed l step a b n.known (sym (named step a b n) ∙ e)
+  only : read_step text ≡ Nothing → NamesNone text
+  only e step a b n = formed step a b n.known (sym (named step a b n) ∙ e)
 
   -- a record in the form, whose number or whose unused arguments name no step
-  unnamed : (step a b : ℕ) → Words 3 (step ∷ a ∷ b ∷ []) → text ≡ record_of step a b → NamesNone l text
-      → asked_in l (cond (unused_are_zero step a b && leb step 18) (RecordWords step a b) NoRecord) ≡ none
-  unnamed step a b w t h = go (unused_are_zero step a b) refl (leb step (last_step l)) refl (leb step 18)
+  none_named : (step a b : ℕ) → Words 3 (step ∷ a ∷ b ∷ []) → text ≡ record_of step a b → NamesNone text
+      → cond (unused_are_zero step a b) (decoded step a b) Nothing ≡ Nothing
+  none_named step a b w t h = go (unused_are_zero step a b) refl (leb step 17) refl
     where
-      go : (u : Bool) → unused_are_zero step a b ≡ u → (k : Bool) → leb step (last_step l) ≡ k → (n : Bool)
-          → asked_in l (cond (u && n) (RecordWords step a b) NoRecord) ≡ none
-      go false p k q n = refl
-      go true p k q false = refl
-      go true p false q true = asked-none l step a b (leb-false step (last_step l) q)
-      go true p true q true =
+      go : (u : Bool) → unused_are_zero step a b ≡ u → (k : Bool) → leb step 17 ≡ k → cond u (decoded step a b) Nothing ≡ Nothing
+      go false p k q = refl
+      go true p false q = unknown step a b (leb-false step 17 q)
+      go true p true q =
           let z = zero-unused step a b p in
-          absurd (h step a b (record { words = w; lines = t; known = leb-true step (last_step l) q; first = z.0; second = z.1 }))
+          absurd (h step a b (record { words = w; lines = t; known = leb-true step 17 q; first = z.0; second = z.1 }))
 
-  none_named : NamesNone l text → read_step l text ≡ none
-  unfolding read_record read_numbers
-  none_named h = go (is_text keys text) refl
+  none : NamesNone text → read_step text ≡ Nothing
+  unfolding read_record record_step read_step
+  none h = go (is_text keys text) refl
     where
-      go : (r : Bool) → is_text keys text ≡ r → read_step l text ≡ none
+      go : (r : Bool) → is_text keys text ≡ r → read_step text ≡ Nothing
       go true p =
           let ws = words_in keys text in
-          rw p (unnamed (get_or ws 0 0) (get_or ws 1 0) (get_or ws 2 0) (words-three text) (text-three text p) h)
+          rw p (none_named (get_or ws 0 0) (get_or ws 1 0) (get_or ws 2 0) (words-three text) (text-three text p) h)
       go false p = rw p
 
 -- ---- the byte that completes a record
@@ -166,24 +174,21 @@ module _ (m : Memory) (x : Reading) (b : ℕ) (h : Completes x) where
   abbrev text : List ℕ
   text = x.left ++ b ∷ []
 
-  abbrev read : Option Given
-  read = read_step x.replay.ledger text
-
-  full : (after_byte m x b ≡ reading (after_asked m x.replay read) []) × (byte_replies m x b ≡ reply_to m x.replay read ∷ [])
+  full : (after_byte m x b ≡ reading (after_decoded m x.replay (read_step text)) []) × (byte_replies m x b ≡ reply_to m x.replay (read_step text) ∷ [])
   full = byte_full m x b h.reads (omega (arith, h.short))
 
-  judged : (d : Option Given) → read ≡ d → (byte_replies m x b ≡ reply_to m x.replay d ∷ []) × (after_byte m x b ≡ reading (after_asked m x.replay d) [])
-  judged d e = (full.1 ∙ (λ j. reply_to m x.replay (e j) ∷ []), full.0 ∙ (λ j. reading (after_asked m x.replay (e j)) []))
+  judged : (d : Decoded) → read_step text ≡ d → (byte_replies m x b ≡ reply_to m x.replay d ∷ []) × (after_byte m x b ≡ reading (after_decoded m x.replay d) [])
+  judged d e = (full.1 ∙ (λ j. reply_to m x.replay (e j) ∷ []), full.0 ∙ (λ j. reading (after_decoded m x.replay (e j)) []))
 
-  refused-only : (number : ℕ) → byte_replies m x b ≡ Broken number ∷ [] → NamesNone x.replay.ledger text
-  refused-only number e = go read refl
+  refused-only : (number : ℕ) → byte_replies m x b ≡ Broken number ∷ [] → NamesNone text
+  refused-only number e = go (read_step text) refl
     where
-      go : (d : Option Given) → read ≡ d → NamesNone x.replay.ledger text
-      go (some g) p =
-          let q = sym (judged (some g) p).0 ∙ e in
+      go : (d : Decoded) → read_step text ≡ d → NamesNone text
+      go (Formed s) p =
+          let q = sym (judged (Formed s) p).0 ∙ e in
           let z : ◌≡◌ {A = ℕ} 0 1 = cc in
           absurd (omega arith)
-      go none p = only x.replay.ledger text p
+      go Nothing p = only text p
 
 -- ---- no step answers refusal 8
 
@@ -194,20 +199,6 @@ is_eight (DoneFlag flag) = false
 is_eight (Granted entry) = false
 is_eight (Trapped trap level entry) = false
 is_eight (Refused number) = eqb number 8
-
--- nor does a ledger refuse by 8
-abbrev OtherNumber : ℕ → Type 0
-OtherNumber n = eqb n 8 ≡ false
-
-ledger-other : (l : Ledger) (step a b mode : ℕ) → OtherNumber (refusal_by l step a b mode)
-unfolding refusal_by
-ledger-other l step a b mode =
-    by_test OtherNumber (eqb step 0) 0 _ (λ t. refl)
-    (λ t.
-    by_test OtherNumber (ltb 7 l.tenant) 9 _ (λ u. refl)
-    (λ u.
-    by_test OtherNumber (eqb step 18) _ _ (λ v. by_test OtherNumber (names_tenant a b) 0 9 (λ w. refl) (λ w. refl))
-    (λ v. by_test OtherNumber (eqb step 17 && overfull l mode a) 10 0 (λ w. refl) (λ w. refl))))
 
 abbrev Other : Effect → Type 0
 Other e = is_eight e.answer ≡ false
@@ -282,36 +273,22 @@ module _ (s : State) where
     unfolding step_rule
     rule_other step = by_test Other (is_reset step || can_hold s) (effect s m step) (refused s 3) (λ t. effect-other step) (λ t. refl)
 
-    -- with a ledger lent, or with none
-    plainly-other : (step : MeteredStep) → Other (plainly (can_hold s) s m step)
-    unfolding step_rule
-    plainly-other (Plain step) = rule_other step
-    plainly-other (Tenant a b) = by_test Other (can_hold s) (effect_of s Done) (refused s 3) (λ t. refl) (λ t. refl)
-
-    given-other : (g : Given) → Other (given_rule s m g)
-    unfolding metered_rule
-    given-other (Unmetered step) = rule_other step
-    given-other (Metered step l) =
-        by_test Other (eqb (ledger_refusal s step l) 0) (plainly (can_hold s) s m step) (refused s (cond (can_hold s) (ledger_refusal s step l) 3))
-        (λ t. plainly-other step)
-        (λ t. by_test OtherNumber (can_hold s) (ledger_refusal s step l) 3 (λ u. ledger-other l _ _ _ _) (λ u. refl))
-
-own : (m : Memory) (h : Hart) (map : Map) (g : Given) → (stepped_by h map m g).answer ≡ Refused 8 → ⊥
-own m h map g e = true≢false (sym (ap is_eight (sym (ap (λ (r : Stepped). r.answer) (step_parts h map m g)) ∙ e)) ∙ given-other h.state m g)
+own : (m : Memory) (h : Hart) (map : Map) (s : Step) → (stepped h map m s).answer ≡ Refused 8 → ⊥
+own m h map s e = true≢false (sym (ap is_eight (sym (ap (λ (r : Stepped). r.answer) (step_parts h map m s)) ∙ e)) ∙ rule_other h.state m s)
 
 pub refusal_eight : (m : Memory) → RefusalEight m
 refusal_eight m = record {
-  none_named = none_named;
+  none = none;
   only = only;
   named = named;
   formed = formed;
   sixty = sixty;
-  refused = λ x b h n. judged m x b h none (none_named x.replay.ledger (x.left ++ b ∷ []) n);
+  refused = λ x b h n. judged m x b h Nothing (none (x.left ++ b ∷ []) n);
   refused-only = λ x b number h. refused-only m x b h number;
-  answered = λ x b step a b' g h n e. judged m x b h (some g) (named x.replay.ledger (x.left ++ b ∷ []) step a b' n ∙ e);
-  goes_on = λ x b step a b' n g h k e r.
-      let j = judged m x b h (some g) (named x.replay.ledger (x.left ++ b ∷ []) step a b' k ∙ e) in (
-        j.0 ∙ (λ i. Answered (r i) (accesses g) ∷ []),
+  answered = λ x b step a b' s h n e. judged m x b h (Formed s) (named (x.left ++ b ∷ []) step a b' n ∙ e);
+  goes_on = λ x b step a b' n s h k e r.
+      let j = judged m x b h (Formed s) (named (x.left ++ b ∷ []) step a b' k ∙ e) in (
+        j.0 ∙ (λ i. Answered (r i) (is_access s) ∷ []),
         ap (λ (y : Reading). y.replay.stopped) j.1,
         ap (λ (y : Reading). y.replay.number) j.1,
       );
@@ -321,14 +298,12 @@ refusal_eight m = record {
 }
 
 pub worked_records : WorkedRecords
-unfolding bytes_of hex_digits line_of lines_of number_at places_of words_in is_text same_list keys record_of read_record unused_are_zero read_numbers decoded
+unfolding bytes_of hex_digits line_of lines_of number_at places_of words_in is_text same_list keys record_of read_record unused_are_zero record_step read_step decoded
 worked_records = record {
   first = refl;
   second = refl;
   letters = refl;
   eighteen = refl;
-  tenant = λ l. refl;
-  nineteen = λ l. refl;
   unused = refl;
   upper_case = refl;
   other_key = refl;

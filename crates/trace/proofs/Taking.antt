@@ -7,8 +7,8 @@ use Rattle.paging.specs.Memory.{Memory}
 use Rattle.trace.specs.declared.Reader.{Reader}
 use Rattle.trace.specs.Replies.{Reply, reply_numbers, written}
 use Rattle.trace.specs.Reading.{Reading, reading, after_byte, byte_replies, after_bytes, replies_to}
-use Rattle.trace.specs.Feeding.{left_of, reading_of, reader_of, answerable, after_feed, feed_replies, taken_by, fed, fed_ledger, feed_words, left_count}
-use Rattle.trace.specs.CutAnywhere.{Handed, Feed, feeding, ledger_left, taken_from, answers_to}
+use Rattle.trace.specs.Feeding.{left_of, reading_of, reader_of, answerable, after_feed, feed_replies, taken_by, fed, feed_words, left_count}
+use Rattle.trace.specs.CutAnywhere.{Handed, Feed, feeding, taken_from, answers_to}
 use Rattle.trace.specs.Taking.{with_count, Unmoved, Taking, Starting, BrokenNumbers}
 use Rattle.trace.proofs.Readers.{Kept, reading_kept, bytes_kept, left_back}
 use Rattle.trace.proofs.Counting.{replies_count}
@@ -29,7 +29,7 @@ module _ (c : Handed) (f : Feed) where
   m = f.memory
 
   abbrev x : Reading
-  x = reading_of c.reader c.hart c.map c.ledger
+  x = reading_of c.reader c.hart c.map
 
   abbrev front : List ℕ
   front = answerable x f.room f.scrap
@@ -41,7 +41,7 @@ module _ (c : Handed) (f : Feed) where
   replies = feed_replies m x f.room f.scrap
 
   before_kept : Kept x
-  before_kept = reading_kept c.reader c.hart c.map c.ledger
+  before_kept = reading_kept c.reader c.hart c.map
 
   after_kept : Kept after
   after_kept = bytes_kept m x front before_kept
@@ -78,7 +78,7 @@ module _ (c : Handed) (f : Feed) where
   fits = omega (arith, replies_count m x front, front_length, before_kept.short)
 
   slice : (answers : List ℕ) → f.room ≡ length answers / 4
-      → feed_words m c.reader c.hart c.map c.ledger f.scrap answers ≡ written reply_numbers replies ++ drop (4 * length replies) answers
+      → feed_words m c.reader c.hart c.map f.scrap answers ≡ written reply_numbers replies ++ drop (4 * length replies) answers
   unfolding feed_words
   slice answers e =
       let text = written reply_numbers replies in
@@ -114,12 +114,11 @@ module _ (c : Handed) (f : Feed) where
 
   -- ---- a feed that does nothing
 
-  unmoved : after ≡ x → replies ≡ [] → Unmoved c (feeding c f) (ledger_left c f)
-  unfolding fed fed_ledger
+  unmoved : after ≡ x → replies ≡ [] → Unmoved c (feeding c f)
+  unfolding fed
   unmoved e r = record {
     hart = ap (λ (y : Reading). y.replay.hart) e;
     map = ap (λ (y : Reading). y.replay.map) e;
-    ledger_same = ap (λ (y : Reading). y.replay.ledger) e;
     number = ap (λ (y : Reading). y.replay.number) e;
     stopped = ap (λ (y : Reading). y.replay.stopped) e;
     left = left_after ∙ ap (λ (y : Reading). y.left) e;
@@ -129,18 +128,17 @@ module _ (c : Handed) (f : Feed) where
   none-given : f.scrap ≡ [] → front ≡ []
   none-given e = ap (take ((60 * f.room + 59) - length x.left)) e ∙ take-nil ((60 * f.room + 59) - length x.left)
 
-  empty : f.scrap ≡ [] → Unmoved c (feeding c f) (ledger_left c f)
+  empty : f.scrap ≡ [] → Unmoved c (feeding c f)
   empty e =
       unmoved (ap (after_bytes m x) (none-given e) ∙ fold_nil (after_byte m) x) (ap (replies_to m x) (none-given e) ∙ outputs_nil (after_byte m) (byte_replies m) x)
 
   -- ---- the count
 
-  capped : 59 < c.reader.count
-      → (feeding c f ≡ feeding (with_count c 59) f) × (ledger_left c f ≡ ledger_left (with_count c 59) f) × (answers_to c f ≡ answers_to (with_count c 59) f)
-  unfolding fed fed_ledger answers_to
+  capped : 59 < c.reader.count → (feeding c f ≡ feeding (with_count c 59) f) × (answers_to c f ≡ answers_to (with_count c 59) f)
+  unfolding fed answers_to
   capped h =
       let n : min c.reader.count 59 ≡ min 59 59 = omega arith in
-      let p : x ≡ reading_of (with_count c 59).reader c.hart c.map c.ledger =
+      let p : x ≡ reading_of (with_count c 59).reader c.hart c.map =
       ap (λ (k : ℕ). reading x.replay (cond c.reader.stopped [] (take k c.reader.carried))) n in (
         (λ j. record {
           reader = reader_of (after_feed m (p j) f.room f.scrap);
@@ -149,7 +147,6 @@ module _ (c : Handed) (f : Feed) where
           taken = taken_by m (p j) f.room f.scrap;
           answered = length (feed_replies m (p j) f.room f.scrap);
         }),
-        (λ j. (after_feed m (p j) f.room f.scrap).replay.ledger),
         (λ j. feed_replies m (p j) f.room f.scrap),
       )
 

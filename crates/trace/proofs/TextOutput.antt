@@ -90,5 +90,5 @@ module _ (to : Form) (text b : List ℕ) where
       go true false d l f e k = ap refused_line (ap refusal_of e)
       go false c d l f e k = ap refused_line (ap refusal_of e)
 
-pub text-output : TextOutput
-text-output = record { end_first = end_first; end_second = end_second; converted = converted; refused = refused }
+pub text_output : TextOutput
+text_output = record { end_first = end_first; end_second = end_second; converted = converted; refused = refused }

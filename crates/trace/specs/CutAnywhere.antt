@@ -1,17 +1,15 @@
 -- 02, [1]: "However the same bytes are cut, answers, end state and map are the same", whatever room each feed had, from any reader, hart and map; with the
--- same words and address lent at each record ([8]), and with or without a ledger, which goes along ([4]).
+-- same words and address lent at each record ([8]).
 use Rattle.std.specs.Prelude.{◌≡◌, ℕ, ◌*◌, ◌≤◌, Bool, List, [], ◌∷◌, ◌++◌, length, take, replicate}
-use Rattle.std.proofs.Math.Option.{Option}
 use Rattle.bits.specs.Fold.{fold, outputs}
 use Rattle.paging.specs.Memory.{Memory}
-use Rattle.ledger.specs.declared.Ledger.{Ledger}
 use Rattle.map.specs.declared.Map.{Map}
 use Rattle.hart.specs.declared.Hart.{Hart}
 use Rattle.trace.specs.declared.Fed.{Fed}
 use Rattle.trace.specs.declared.Reader.{Reader}
 use Rattle.trace.specs.Replies.{Reply}
 use Rattle.trace.specs.Reading.{Reading, after_bytes, replies_to}
-use Rattle.trace.specs.Feeding.{left_of, reading_of, feed_replies, fed, fed_ledger}
+use Rattle.trace.specs.Feeding.{left_of, reading_of, feed_replies, fed}
 
 -- one call: the scrap, the room for answers, the memory lent
 pub record Feed : Type 0 where
@@ -24,25 +22,20 @@ pub record Handed : Type 0 where
   pub reader : Reader
   pub hart : Hart
   pub map : Map
-  pub ledger : Option Ledger
 
 -- ---- a feed: what it hands back, the bytes that it takes, its answers, and the memory lent at each record that it answers
 
 abbrev pub feeding : Handed → Feed → Fed
-feeding c f = fed f.memory c.reader c.hart c.map c.ledger f.room f.scrap
-
--- the ledger that it leaves
-abbrev pub ledger_left : Handed → Feed → Option Ledger
-ledger_left c f = fed_ledger f.memory c.reader c.hart c.map c.ledger f.room f.scrap
+feeding c f = fed f.memory c.reader c.hart c.map f.room f.scrap
 
 unfoldable pub handed_after : Handed → Feed → Handed
-handed_after c f = record { reader = (feeding c f).reader; hart = (feeding c f).hart; map = (feeding c f).map; ledger = ledger_left c f }
+handed_after c f = record { reader = (feeding c f).reader; hart = (feeding c f).hart; map = (feeding c f).map }
 
 unfoldable pub taken_from : Handed → Feed → List ℕ
 taken_from c f = take (feeding c f).taken f.scrap
 
 unfoldable pub answers_to : Handed → Feed → List Reply
-answers_to c f = feed_replies f.memory (reading_of c.reader c.hart c.map c.ledger) f.room f.scrap
+answers_to c f = feed_replies f.memory (reading_of c.reader c.hart c.map) f.room f.scrap
 
 unfoldable pub lent_at : Handed → Feed → List Memory
 lent_at c f = replicate (feeding c f).answered f.memory
@@ -61,12 +54,11 @@ all_answers c fs = outputs handed_after answers_to c fs
 abbrev pub all_lent : Handed → List Feed → List Memory
 all_lent c fs = outputs handed_after lent_at c fs
 
--- what feeds come to: all answers, the hart, the map and the ledger at the end, the next record's number, whether refusal 8 has come, and the bytes short of a record
+-- what feeds come to: all answers, the hart and the map at the end, the next record's number, whether refusal 8 has come, and the bytes short of a record
 pub record Outcome : Type 0 where
   pub answers : List Reply
   pub hart : Hart
   pub map : Map
-  pub ledger : Option Ledger
   pub number : ℕ
   pub stopped : Bool
   pub left : List ℕ
@@ -76,7 +68,6 @@ outcome c fs = record {
   answers = all_answers c fs;
   hart = (after_feeds c fs).hart;
   map = (after_feeds c fs).map;
-  ledger = (after_feeds c fs).ledger;
   number = (after_feeds c fs).reader.number;
   stopped = (after_feeds c fs).reader.stopped;
   left = left_of (after_feeds c fs).reader;
@@ -118,7 +109,6 @@ at_once m x bytes = record {
   answers = replies_to m x bytes;
   hart = (after_bytes m x bytes).replay.hart;
   map = (after_bytes m x bytes).replay.map;
-  ledger = (after_bytes m x bytes).replay.ledger;
   number = (after_bytes m x bytes).replay.number;
   stopped = (after_bytes m x bytes).replay.stopped;
   left = (after_bytes m x bytes).left;
@@ -126,7 +116,7 @@ at_once m x bytes = record {
 
 pub record OneSlice (m : Memory) : Type 0 where
   -- "the hart steps at each full record": feeds come to what the bytes that they take come to at once
-  pub at_once_lem : (c : Handed) (fs : List Feed) → AllLend m fs → outcome c fs ≡ at_once m (reading_of c.reader c.hart c.map c.ledger) (all_taken c fs)
+  pub at_once_lem : (c : Handed) (fs : List Feed) → AllLend m fs → outcome c fs ≡ at_once m (reading_of c.reader c.hart c.map) (all_taken c fs)
   -- "the same bytes", those taken, are enough for the same outcome, whatever room each feed had
   pub alike : (c : Handed) (fs gs : List Feed) → AllLend m fs → AllLend m gs → all_taken c fs ≡ all_taken c gs → outcome c fs ≡ outcome c gs
   -- "However the same bytes are cut": said of what is given alone

@@ -1,15 +1,12 @@
--- What replay writes behind the lines of the records: the saved text of the end state, the ranges of the map, and the bytes left over; and what meter writes
--- (02, [4]): refusal 8 with the record's number, if it came, the text of the ledger, the saved text of the end state, and the bytes left over.
-use Rattle.std.specs.Prelude.{ℕ, Bool, cond, List, [], ◌∷◌, ◌++◌, ◌==◌}
+-- What replay writes behind the lines of the records: the saved text of the end state, the ranges of the map, and the bytes left over.
+use Rattle.std.specs.Prelude.{ℕ, cond, List, [], ◌∷◌, ◌++◌, ◌==◌}
 use Rattle.pmp.specs.Rule.{none}
 use Rattle.map.specs.declared.Map.{Map}
 use Rattle.map.specs.declared.Range.{Range}
 use Rattle.map.specs.Lookup.{ranges_in}
-use Rattle.ledger.specs.declared.Ledger.{Ledger}
-use Rattle.ledger_text.specs.LedgerText.{text_of}
 use Rattle.hart.specs.declared.Hart.{Hart}
 use Rattle.lines.specs.Lines.{bytes_of, hex_digits}
-use Rattle.trace.specs.Answers.{decimal, numbered_line, broken_line}
+use Rattle.trace.specs.Answers.{decimal, numbered_line}
 use Rattle.trace.specs.SavedTexts.{state_text}
 
 unfoldable pub owner_text : ℕ → List ℕ
@@ -25,10 +22,3 @@ range_lines (r ∷ rs) = range_line r ++ range_lines rs
 
 unfoldable pub ending : Hart → Map → ℕ → List ℕ
 ending h map left = state_text h ++ (range_lines (ranges_in map) ++ numbered_line (bytes_of "left ") left)
-
--- a broken record's line, where one ended the reading
-abbrev pub stop_line : Bool → ℕ → List ℕ
-stop_line stopped number = cond stopped (broken_line number) []
-
-unfoldable pub meter_ending : Bool → ℕ → Ledger → Hart → ℕ → List ℕ
-meter_ending stopped number l h left = stop_line stopped number ++ (text_of l ++ (state_text h ++ numbered_line (bytes_of "left ") left))

@@ -1,11 +1,8 @@
 -- 02, [1]: a reader that is fed scraps. How many bytes a feed takes, and what it leaves.
 use Rattle.std.specs.Prelude.{◌≡◌, ℕ, ◌+◌, ◌-◌, ◌*◌, ◌/◌, min, Bool, false, cond, List, [], length, take, replicate}
-use Rattle.std.proofs.Math.Option.{Option}
 use Rattle.std.proofs.lemmas.List.Edits.{sets}
 use Rattle.paging.specs.Memory.{Memory}
 use Rattle.state.specs.Words.{state_of}
-use Rattle.ledger.specs.declared.Ledger.{Ledger}
-use Rattle.ledger.specs.Words.{lent_by, words_left}
 use Rattle.map.specs.declared.Map.{Map}
 use Rattle.hart.specs.declared.Hart.{Hart}
 use Rattle.hart.specs.Steps.{map_for, hart_with}
@@ -15,15 +12,14 @@ use Rattle.trace.specs.declared.Reader.{Reader}
 use Rattle.trace.specs.declared.Progress.{Progress}
 use Rattle.trace.specs.Buffers.{Put}
 use Rattle.trace.specs.Reading.{Reading, reading, after_bytes, replies_to}
-use Rattle.trace.specs.Batches.{Slices}
 
 -- the bytes short of a record that a reader carries: a count above 59 is read as 59, and after refusal 8 there are none
 abbrev pub left_of : Reader → List ℕ
 left_of r = cond r.stopped [] (take (min r.count 59) r.carried)
 
--- a reader with the hart, the map and the ledger, if one is lent, that go along
-abbrev pub reading_of : Reader → Hart → Map → Option Ledger → Reading
-reading_of r h map l = reading (record { hart = h; map = map; ledger = l; number = r.number; stopped = r.stopped }) (left_of r)
+-- a reader with the hart and the map that go along
+abbrev pub reading_of : Reader → Hart → Map → Reading
+reading_of r h map = reading (record { hart = h; map = map; number = r.number; stopped = r.stopped }) (left_of r)
 
 -- and back: behind the bytes that it carries a reader has zeros
 abbrev pub reader_of : Reading → Reader
@@ -58,43 +54,33 @@ module _ (m : Memory) where
   abbrev pub taken_by : Reading → ℕ → List ℕ → ℕ
   taken_by x room scrap = cond (after_feed x room scrap).replay.stopped (length scrap) (length (answerable x room scrap))
 
--- by value
-unfoldable pub fed : Memory → Reader → Hart → Map → Option Ledger → ℕ → List ℕ → Fed
-fed m rd h map l room scrap = record {
-  reader = reader_of (after_feed m (reading_of rd h map l) room scrap);
-  hart = (after_feed m (reading_of rd h map l) room scrap).replay.hart;
-  map = (after_feed m (reading_of rd h map l) room scrap).replay.map;
-  taken = taken_by m (reading_of rd h map l) room scrap;
-  answered = length (feed_replies m (reading_of rd h map l) room scrap);
-}
-
--- the ledger that is left
-unfoldable pub fed_ledger : Memory → Reader → Hart → Map → Option Ledger → ℕ → List ℕ → Option Ledger
-fed_ledger m rd h map l room scrap = (after_feed m (reading_of rd h map l) room scrap).replay.ledger
-
--- the answers from the front of their slice
-unfoldable pub feed_words : Memory → Reader → Hart → Map → Option Ledger → List ℕ → List ℕ → List ℕ
-feed_words m rd h map l scrap answers = sets answers 0 (written reply_numbers (feed_replies m (reading_of rd h map l) (length answers / 4) scrap))
-
--- ---- on the words of a hart and of a ledger, which are changed in place
-
--- what is read from slices with a map that is given
-abbrev pub reading_from : Reader → Slices → Map → Reading
-reading_from rd x map = reading_of rd (hart_with (state_of x.words)) map (lent_by x.ledger)
-
--- what a feed does with a map that is given; the fresh one, where it is asked for, is that of the words left
-pub record FedBy (m : Memory) (output : Bool) (rd : Reader) (given : Map) (room : ℕ) (scrap : List ℕ) (before : Slices) (p : Progress) (after : Slices) : Type 0 where
-  pub reader : p.reader ≡ reader_of (after_feed m (reading_from rd before given) room scrap)
-  pub hart : hart_with (state_of after.words) ≡ (after_feed m (reading_from rd before given) room scrap).replay.hart
-  pub map : cond p.remap (map_for (state_of after.words).pmp) given ≡ (after_feed m (reading_from rd before given) room scrap).replay.map
-  pub ledger : after.ledger ≡ words_left before.ledger (after_feed m (reading_from rd before given) room scrap).replay.ledger
-  pub taken : p.taken ≡ taken_by m (reading_from rd before given) room scrap
-  pub put : Put before.output 0 (written (text_by output) (feed_replies m (reading_from rd before given) room scrap)) after.output p.filled
+-- what a feed on the words of a hart does with a map that is given; the fresh one, where it is asked for, is that of the words left
+pub record FedBy (m : Memory) (output : Bool) (rd : Reader) (given : Map) (room : ℕ) (scrap before buffer : List ℕ)
+    (p : Progress) (words after : List ℕ) : Type 0 where
+  pub reader : p.reader ≡ reader_of (after_feed m (reading_of rd (hart_with (state_of before)) given) room scrap)
+  pub hart : hart_with (state_of words) ≡ (after_feed m (reading_of rd (hart_with (state_of before)) given) room scrap).replay.hart
+  pub map : cond p.remap (map_for (state_of words).pmp) given ≡ (after_feed m (reading_of rd (hart_with (state_of before)) given) room scrap).replay.map
+  pub taken : p.taken ≡ taken_by m (reading_of rd (hart_with (state_of before)) given) room scrap
+  pub put : Put buffer 0 (written (text_by output) (feed_replies m (reading_of rd (hart_with (state_of before)) given) room scrap)) after p.filled
 
 -- no map is read, so it is any
-abbrev pub Feeds : Memory → Bool → Reader → ℕ → List ℕ → Slices → Progress → Slices → Type 0
-Feeds m output rd room scrap before p after = (map : Map) → FedBy m output rd map room scrap before p after
+abbrev pub Feeds : Memory → Bool → Reader → ℕ → List ℕ → List ℕ → List ℕ → Progress → List ℕ → List ℕ → Type 0
+Feeds m output rd room scrap before buffer p words after = (map : Map) → FedBy m output rd map room scrap before buffer p words after
 
 -- with a slice for the answers, four words each
-abbrev pub FeedsWords : Memory → Reader → List ℕ → Slices → Progress → Slices → Type 0
-FeedsWords m rd scrap before p after = Feeds m false rd (length before.output / 4) scrap before p after
+abbrev pub FeedsWords : Memory → Reader → List ℕ → List ℕ → List ℕ → Progress → List ℕ → List ℕ → Type 0
+FeedsWords m rd scrap before answers p words after = Feeds m false rd (length answers / 4) scrap before answers p words after
+
+-- by value
+unfoldable pub fed : Memory → Reader → Hart → Map → ℕ → List ℕ → Fed
+fed m rd h map room scrap = record {
+  reader = reader_of (after_feed m (reading_of rd h map) room scrap);
+  hart = (after_feed m (reading_of rd h map) room scrap).replay.hart;
+  map = (after_feed m (reading_of rd h map) room scrap).replay.map;
+  taken = taken_by m (reading_of rd h map) room scrap;
+  answered = length (feed_replies m (reading_of rd h map) room scrap);
+}
+
+-- the answers from the front of their slice
+unfoldable pub feed_words : Memory → Reader → Hart → Map → List ℕ → List ℕ → List ℕ
+feed_words m rd h map scrap answers = sets answers 0 (written reply_numbers (feed_replies m (reading_of rd h map) (length answers / 4) scrap))

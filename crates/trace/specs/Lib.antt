@@ -12,7 +12,6 @@ pub mod TextOutput
 pub mod Endings
 pub mod Sessions
 pub mod InPieces
-pub mod InParts
 pub mod CutAnywhere
 pub mod Taking
 pub mod RefusalEight

@@ -1,36 +1,31 @@
--- 02, [1] and [4]: a trace read byte by byte. The hart steps at each full record of 60 bytes, with the memory lent to it and the ledger, if one is lent, up to a
--- record that is refused by 8.
+-- 02, [1]: a trace read byte by byte. The hart steps at each full record of 60 bytes, with the memory lent to it, up to a record that is refused by 8.
 use Rattle.std.specs.Prelude.{ℕ, ◌+◌, ◌%◌, ◌^◌, Bool, true, false, cond, List, [], ◌∷◌, ◌++◌, length, nat_lt}
-use Rattle.std.proofs.Math.Option.{Option, some, none}
 use Rattle.bits.specs.Fold.{fold, outputs}
+use Rattle.steps.specs.declared.Decoded.{Decoded}
+use Rattle.steps.specs.declared.Decoded.TheVariants.{Formed, Nothing}
+use Rattle.steps.specs.Decode.{is_access}
 use Rattle.paging.specs.Memory.{Memory}
-use Rattle.ledger.specs.declared.Ledger.{Ledger}
-use Rattle.ledger.specs.Given.{Given, accesses, asked}
 use Rattle.map.specs.declared.Map.{Map}
 use Rattle.hart.specs.declared.Hart.{Hart}
 use Rattle.hart.specs.declared.Stepped.{Stepped}
-use Rattle.hart.specs.Steps.{stepped_by, ledger_by}
-use Rattle.records.specs.declared.Record.{Record}
-use Rattle.records.specs.declared.Record.TheVariants.{Words, Broken as NoRecord}
-use Rattle.records.specs.Records.{read_numbers}
+use Rattle.hart.specs.Steps.{stepped}
+use Rattle.records.specs.Records.{read_step}
 use Rattle.trace.specs.Replies.{Reply, Answered, Broken}
 
--- what goes on from record to record: the hart with its map, the ledger, if one is lent, the number of the next record, and whether refusal 8 has ended the
--- reading
+-- what goes on from record to record: the hart with its map, the number of the next record, and whether refusal 8 has ended the reading
 pub record Replay : Type 0 where
   pub hart : Hart
   pub map : Map
-  pub ledger : Option Ledger
   pub number : ℕ
   pub stopped : Bool
 
 -- record numbers wrap at 2^64. A step that 01 refuses is an answer like others, and counts
-abbrev pub after_step : Stepped → Option Ledger → ℕ → Replay
-after_step s ledger number = record { hart = s.hart; map = s.map; ledger = ledger; number = (number + 1) % 2 ^ 64; stopped = false }
+abbrev pub after_step : Stepped → ℕ → Replay
+after_step s number = record { hart = s.hart; map = s.map; number = (number + 1) % 2 ^ 64; stopped = false }
 
 -- the number stays that of the broken record
 abbrev pub stopped_at : Replay → Replay
-stopped_at r = record { hart = r.hart; map = r.map; ledger = r.ledger; number = r.number; stopped = true }
+stopped_at r = record { hart = r.hart; map = r.map; number = r.number; stopped = true }
 
 -- and from byte to byte: besides, the bytes that are short of a record
 pub record Reading : Type 0 where
@@ -40,31 +35,23 @@ pub record Reading : Type 0 where
 abbrev pub reading : Replay → List ℕ → Reading
 reading r left = record { replay = r; left = left }
 
--- the step that a record names; step 18 with a ledger alone
-abbrev pub asked_in : Option Ledger → Record → Option Given
-asked_in l (Words step a b) = asked l step a b
-asked_in l NoRecord = none
-
-abbrev pub read_step : Option Ledger → List ℕ → Option Given
-read_step l text = asked_in l (read_numbers text)
-
 -- the memory that is lent at a record (02, [8])
 module _ (m : Memory) where
   -- a record's step, or refusal 8 where it names none
-  abbrev pub after_asked : Replay → Option Given → Replay
-  after_asked r (some g) = after_step (stepped_by r.hart r.map m g) (ledger_by r.hart r.map m g) r.number
-  after_asked r none = stopped_at r
+  abbrev pub after_decoded : Replay → Decoded → Replay
+  after_decoded r (Formed step) = after_step (stepped r.hart r.map m step) r.number
+  after_decoded r Nothing = stopped_at r
 
-  abbrev pub reply_to : Replay → Option Given → Reply
-  reply_to r (some g) = Answered (stepped_by r.hart r.map m g).answer (accesses g)
-  reply_to r none = Broken r.number
+  abbrev pub reply_to : Replay → Decoded → Reply
+  reply_to r (Formed step) = Answered (stepped r.hart r.map m step).answer (is_access step)
+  reply_to r Nothing = Broken r.number
 
   -- a record's 60 bytes: what they leave, and what is given out; after refusal 8, nothing
   unfoldable pub after_record : Replay → List ℕ → Replay
-  after_record r text = cond r.stopped r (after_asked r (read_step r.ledger text))
+  after_record r text = cond r.stopped r (after_decoded r (read_step text))
 
   unfoldable pub record_replies : Replay → List ℕ → List Reply
-  record_replies r text = cond r.stopped [] (reply_to r (read_step r.ledger text) ∷ [])
+  record_replies r text = cond r.stopped [] (reply_to r (read_step text) ∷ [])
 
   -- a byte: it is kept until with the 60th the record is judged; after refusal 8 it is ignored
   unfoldable pub after_byte : Reading → ℕ → Reading

@@ -1,22 +1,19 @@
 -- 02, [1]: what one feed takes, answers and leaves, for any reader, hart, map, scrap, room and memory.
 use Rattle.std.specs.Prelude.{◌≡◌, ℕ, ◌+◌, ◌-◌, ◌*◌, ◌/◌, ◌%◌, ◌^◌, ◌<◌, ◌≤◌, true, false, List, [], ◌∷◌, ◌++◌, length, take, drop}
-use Rattle.std.proofs.Math.Option.{Option}
-use Rattle.ledger.specs.declared.Ledger.{Ledger}
 use Rattle.trace.specs.declared.Fed.{Fed}
 use Rattle.trace.specs.Replies.{Broken, reply_numbers, written}
 use Rattle.trace.specs.Feeding.{left_of, new_reader, left_count, feed_words}
-use Rattle.trace.specs.CutAnywhere.{Handed, Feed, feeding, ledger_left, taken_from, answers_to}
+use Rattle.trace.specs.CutAnywhere.{Handed, Feed, feeding, taken_from, answers_to}
 
 -- the same with another count of bytes carried
 abbrev pub with_count : Handed → ℕ → Handed
 with_count c n =
-    record { reader = record { carried = c.reader.carried; count = n; number = c.reader.number; stopped = c.reader.stopped }; hart = c.hart; map = c.map; ledger = c.ledger }
+    record { reader = record { carried = c.reader.carried; count = n; number = c.reader.number; stopped = c.reader.stopped }; hart = c.hart; map = c.map }
 
 -- what a feed hands back is what it was handed, but for what stands behind the bytes left over
-pub record Unmoved (c : Handed) (after : Fed) (ledger : Option Ledger) : Type 0 where
+pub record Unmoved (c : Handed) (after : Fed) : Type 0 where
   pub hart : after.hart ≡ c.hart
   pub map : after.map ≡ c.map
-  pub ledger_same : ledger ≡ c.ledger
   pub number : after.reader.number ≡ c.reader.number
   pub stopped : after.reader.stopped ≡ c.reader.stopped
   pub left : left_of after.reader ≡ left_of c.reader
@@ -30,7 +27,7 @@ pub record Taking (c : Handed) (f : Feed) : Type 0 where
   pub fits : (feeding c f).answered ≤ f.room
   -- the slice for the answers, with room for one in each four words: at its front the numbers of each answer; the words behind are unchanged
   pub slice : (answers : List ℕ) → f.room ≡ length answers / 4
-      → feed_words f.memory c.reader c.hart c.map c.ledger f.scrap answers
+      → feed_words f.memory c.reader c.hart c.map f.scrap answers
       ≡ written reply_numbers (answers_to c f) ++ drop (4 * (feeding c f).answered) answers
   -- bytes are left untaken only where the next one would complete a record that there is no room for
   pub full : (feeding c f).taken < length f.scrap
@@ -55,12 +52,11 @@ pub record Taking (c : Handed) (f : Feed) : Type 0 where
       × ((feeding c f).taken ≡ length f.scrap) × (left_of (feeding c f).reader ≡ [])
       × (c.reader.number < 2 ^ 64 → (feeding c f).reader.number ≡ (c.reader.number + ((feeding c f).answered - 1)) % 2 ^ 64)
   -- "later bytes are ignored", those of later scraps too
-  pub ignored : c.reader.stopped ≡ true → ((feeding c f).taken ≡ length f.scrap) × (left_of (feeding c f).reader ≡ []) × Unmoved c (feeding c f) (ledger_left c f)
+  pub ignored : c.reader.stopped ≡ true → ((feeding c f).taken ≡ length f.scrap) × (left_of (feeding c f).reader ≡ []) × Unmoved c (feeding c f)
   -- "scraps of any length, also empty"
-  pub empty : f.scrap ≡ [] → Unmoved c (feeding c f) (ledger_left c f)
+  pub empty : f.scrap ≡ [] → Unmoved c (feeding c f)
   -- "a carried count above 59 is read as 59"
-  pub capped : 59 < c.reader.count
-      → (feeding c f ≡ feeding (with_count c 59) f) × (ledger_left c f ≡ ledger_left (with_count c 59) f) × (answers_to c f ≡ answers_to (with_count c 59) f)
+  pub capped : 59 < c.reader.count → (feeding c f ≡ feeding (with_count c 59) f) × (answers_to c f ≡ answers_to (with_count c 59) f)
 
 -- "the record's number, from 0": that of the first record, before which nothing is carried
 pub record Starting : Type 0 where

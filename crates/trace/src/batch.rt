@@ -4,17 +4,16 @@ ghost use Rattle.paging.specs.Memory.{memory_at};
 ghost use Rattle.state.specs.Hold.{can_hold};
 ghost use Rattle.state.specs.Words.{state_of};
 ghost use Rattle.trace.specs.Replies.{width_of, target, spared};
-ghost use Rattle.trace.specs.Batches.{records_of, slices, MayLend, Batch};
+ghost use Rattle.trace.specs.Batches.{records_of, Batch};
 
 use crate::{Cursor, replies};
 
-// Steps through `count` records that begin at a place, each with the memory lent to it and the ledger, if one is lent, and writes what is given out for each. The
-// steps are taken on the words of the hart, and no map is read.
+// Steps through `count` records that begin at a place, each with the memory lent to it, and writes what is given out for each. The steps are taken on the
+// words of the hart, and no map is read.
 pub(crate) fn batch(
     words: &mut [u64; 43],
     memory: &[u64],
     base: u64,
-    ledger: &mut [u64],
     bytes: &[u8],
     place: usize,
     count: usize,
@@ -26,16 +25,13 @@ pub(crate) fn batch(
     requires count_in_bounds { place + 60 * count ≤ length bytes.now }
     requires count_in_bounds_2 { start.filled + width_of as_lines * count ≤ length (target as_lines answers.old lines.old) }
     requires held_value { start.held ≡ can_hold (state_of words.old) }
-    requires may_lend { MayLend as_lines ledger.old }
-    ensures batch { Batch (memory_at memory.now base) as_lines (records_of count (drop place bytes.now)) start (slices words.old ledger.old (target as_lines answers.old lines.old)) result (slices words.new ledger.new (target as_lines answers.new lines.new)) }
+    ensures batch { Batch (memory_at memory.now base) as_lines (records_of count (drop place bytes.now)) start words.old (target as_lines answers.old lines.old) result words.new (target as_lines answers.new lines.new) }
     ensures held_value_2 { result.held ≡ can_hold (state_of words.new) }
-    ensures may_lend_2 { MayLend as_lines ledger.new }
     ensures lines_unchanged { spared as_lines answers.new lines.new ≡ spared as_lines answers.old lines.old }
 {
     if start.stopped {
         return start;
     }
-    let last = engine::last_step(ledger);
     let mut left = count;
     let mut held = start.held;
     let mut remap = start.remap;
@@ -45,7 +41,7 @@ pub(crate) fn batch(
     while 0 < left {
         left -= 1;
         let next = scrap::read(bytes, at);
-        if !next.named | (last < next.step) {
+        if !next.named {
             filled = replies::put_broken(number, as_lines, answers, lines, filled);
             return Cursor {
                 held,
@@ -56,8 +52,7 @@ pub(crate) fn batch(
             };
         }
         let told = replies::put_step(
-            words, memory, base, ledger, held, next.step, next.a, next.b, as_lines, answers, lines,
-            filled,
+            words, memory, base, held, next.step, next.a, next.b, as_lines, answers, lines, filled,
         );
         held = told.held;
         remap = remap | told.remap;

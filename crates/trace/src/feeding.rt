@@ -4,7 +4,6 @@ ghost use Rattle.std.proofs.lemmas.List.Edits.{sets};
 ghost use Rattle.state.specs.Words.{state_of};
 ghost use Rattle.paging.specs.Memory.{memory_at};
 ghost use Rattle.trace.specs.Replies.{width_of, target, spared};
-ghost use Rattle.trace.specs.Batches.{slices, MayLend};
 ghost use Rattle.trace.specs.Feeding.{Feeds};
 ghost use Rattle.trace.specs.Parts.{opening_of, wholes_in, further_in, closed, remade};
 
@@ -106,22 +105,20 @@ fn close(carried: [u8; 59], kept: usize, scrap: &[u8], end: usize, last: Cursor)
     }
 }
 
-// Feeds a scrap to a reader, on the words of its hart and of a ledger, if one is lent, with room for a number of answers.
+// Feeds a scrap to a reader, on the words of its hart, with room for a number of answers.
 pub(crate) fn read(
     reader: Reader,
     words: &mut [u64; 43],
     memory: &[u64],
     base: u64,
-    ledger: &mut [u64],
     scrap: &[u8],
     room: usize,
     as_lines: bool,
     answers: &mut [u64],
     lines: &mut [u8],
 ) -> Progress
-    requires room_in_bounds { width_of as_lines * room ≤ length (target as_lines answers.old lines.old) }
-    requires may_lend { MayLend as_lines ledger.old }
-    ensures feeds { Feeds (memory_at memory.now base) as_lines reader room scrap.now (slices words.old ledger.old (target as_lines answers.old lines.old)) result (slices words.new ledger.new (target as_lines answers.new lines.new)) }
+    requires { width_of as_lines * room ≤ length (target as_lines answers.old lines.old) }
+    ensures feeds { Feeds (memory_at memory.now base) as_lines reader room scrap.now words.old (target as_lines answers.old lines.old) result words.new (target as_lines answers.new lines.new) }
     ensures lines_unchanged { spared as_lines answers.new lines.new ≡ spared as_lines answers.old lines.old }
 {
     let carried = reader.carried;
@@ -139,11 +136,11 @@ pub(crate) fn read(
         filled: 0,
     };
     let first = batch(
-        words, memory, base, ledger, &text, 0, heads, as_lines, answers, lines, start,
+        words, memory, base, &text, 0, heads, as_lines, answers, lines, start,
     );
     let whole = wholes(room - heads, scrap.len() - at, kept);
     let last = batch(
-        words, memory, base, ledger, scrap, at, whole, as_lines, answers, lines, first,
+        words, memory, base, scrap, at, whole, as_lines, answers, lines, first,
     );
     close(carried, kept, scrap, at + 60 * whole, last)
 }

@@ -1,6 +1,5 @@
 // A trace: the reader of its records, cut anywhere, and the answers to them, in words or as lines; and saved texts, as programs read and write them.
 use hart::Hart;
-use ledger::Ledger;
 use map::Map;
 
 mod batch;
@@ -72,14 +71,13 @@ pub(crate) struct Opening {
     pub(crate) kept: usize,
 }
 
-// What goes on from one piece of a trace to the next in a program: the reader with its hart and map, the ledger, which a metered session lends to its records,
-// whether there may be more input, and the refusal of the text it started from, or 0.
+// What goes on from one piece of a trace to the next in a program: the reader with its hart and map, whether there may be more input, and the refusal of
+// the text it started from, or 0.
 #[derive(Drop)]
 pub struct Session {
     pub reader: Reader,
     pub hart: Hart,
     pub map: Map,
-    pub ledger: Ledger,
     pub more: bool,
     pub refusal: u64,
 }

@@ -1,9 +1,7 @@
 // The reader of a trace, fed scraps of any length.
 ghost use Rattle.std.specs.Prelude.{◌≡◌, ◌/◌, length};
 ghost use Rattle.paging.specs.Memory.{memory_at};
-ghost use Rattle.ledger.specs.Words.{lent_by, words_left};
-ghost use Rattle.trace.specs.Batches.{slices};
-ghost use Rattle.trace.specs.Feeding.{new_reader, left_count, FeedsWords, fed, fed_ledger, feed_words};
+ghost use Rattle.trace.specs.Feeding.{new_reader, left_count, FeedsWords, fed, feed_words};
 
 use crate::feeding::{capped, handed_back, read};
 use crate::{Fed, Progress, Reader};
@@ -33,23 +31,22 @@ impl Reader {
         capped(self.count) as u64
     }
 
-    // Feeds a scrap, on the words of a hart and of a ledger, if one is lent: each full record steps the hart, with the memory and the ledger, and the answer is
-    // written as four words, from the front of a slice. As many bytes are taken as there is room to answer, and from a broken record on every byte.
+    // Feeds a scrap, on the words of a hart: each full record steps it, with the memory lent to it, and the answer is written as four words, from the
+    // front of a slice. As many bytes are taken as there is room to answer, and from a broken record on every byte.
     pub fn feed_words(
         self,
         words: &mut [u64; 43],
         memory: &[u64],
         base: u64,
-        ledger: &mut [u64],
         scrap: &[u8],
         answers: &mut [u64],
     ) -> Progress
-        ensures { FeedsWords (memory_at memory.now base) self scrap.now (slices words.old ledger.old answers.old) result (slices words.new ledger.new answers.new) }
+        ensures { FeedsWords (memory_at memory.now base) self scrap.now words.old answers.old result words.new answers.new }
     {
         let mut lines = [0u8; 1];
         let room = answers.len() / 4;
         read(
-            self, words, memory, base, ledger, scrap, room, false, answers, &mut lines,
+            self, words, memory, base, scrap, room, false, answers, &mut lines,
         )
     }
 
@@ -60,17 +57,15 @@ impl Reader {
         map: Map,
         memory: &[u64],
         base: u64,
-        ledger: &mut [u64],
         scrap: &[u8],
         answers: &mut [u64],
     ) -> Fed
-        ensures value { result ≡ fed (memory_at memory.now base) self hart map (lent_by ledger.old) (length answers.old / 4) scrap.now }
-        ensures ledger_after { ledger.new ≡ words_left ledger.old (fed_ledger (memory_at memory.now base) self hart map (lent_by ledger.old) (length answers.old / 4) scrap.now) }
-        ensures answers_after { answers.new ≡ feed_words (memory_at memory.now base) self hart map (lent_by ledger.old) scrap.now answers.old }
+        ensures value { result ≡ fed (memory_at memory.now base) self hart map (length answers.old / 4) scrap.now }
+        ensures answers_after { answers.new ≡ feed_words (memory_at memory.now base) self hart map scrap.now answers.old }
     {
         let state = hart.state;
         let mut words = state::to_words(state);
-        let next = self.feed_words(&mut words, memory, base, ledger, scrap, answers);
+        let next = self.feed_words(&mut words, memory, base, scrap, answers);
         let reader = next.reader;
         let after = handed_back(words, next.remap, map);
         let left = after.hart;

@@ -1,14 +1,11 @@
 // What is given out for a record, written as four words to the one buffer, or as a line to the other. Which it is, is a number passed by value: a program that knows only one of them then has no
 // code of the other.
 ghost use Rattle.std.specs.Prelude.{◌≡◌, ◌+◌, ◌≤◌, [], ◌∷◌, length};
-ghost use Rattle.steps.specs.Decode.{names_access};
+ghost use Rattle.steps.specs.Decode.{decoded, names_access};
 ghost use Rattle.paging.specs.Memory.{memory_at};
 ghost use Rattle.state.specs.Words.{state_of};
-ghost use Rattle.ledger.specs.Words.{lent_by, words_left};
-ghost use Rattle.ledger.specs.Given.{asked};
-ghost use Rattle.engine.specs.Taking.{asked_taken, asked_state, asked_ledger, told};
+ghost use Rattle.engine.specs.Taking.{named_taken, named_state, told};
 ghost use Rattle.trace.specs.Buffers.{Put};
-ghost use Rattle.trace.specs.Batches.{MayLend};
 ghost use Rattle.trace.specs.Replies.{told_by, Answered, Broken, text_by, width_of, target, spared};
 
 use crate::{StepLeft, writer};
@@ -32,12 +29,11 @@ fn put_words(
     place + 4
 }
 
-// The answer to the step that numbers name, whatever they name, with the ledger that is lent, or with none.
+// The answer to the step that numbers name, whatever they name.
 pub(crate) fn put_step(
     words: &mut [u64; 43],
     memory: &[u64],
     base: u64,
-    ledger: &mut [u64],
     held: bool,
     step: u64,
     a: u64,
@@ -47,12 +43,10 @@ pub(crate) fn put_step(
     lines: &mut [u8],
     place: usize,
 ) -> StepLeft
-    requires as_lines_in_bounds { place + width_of as_lines ≤ length (target as_lines answers.old lines.old) }
-    requires may_lend { MayLend as_lines ledger.old }
-    ensures b_value { told (asked_taken held (state_of words.old) (memory_at memory.now base) (asked (lent_by ledger.old) step a b)) ≡ told_by result }
-    ensures words_after { state_of words.new ≡ asked_state held (state_of words.old) (memory_at memory.now base) (asked (lent_by ledger.old) step a b) }
-    ensures ledger_after { ledger.new ≡ words_left ledger.old (asked_ledger held (state_of words.old) (memory_at memory.now base) (lent_by ledger.old) (asked (lent_by ledger.old) step a b)) }
-    ensures put { Put (target as_lines answers.old lines.old) place (text_by as_lines (Answered (asked_taken held (state_of words.old) (memory_at memory.now base) (asked (lent_by ledger.old) step a b)).answer (names_access step))) (target as_lines answers.new lines.new) result.filled }
+    requires { place + width_of as_lines ≤ length (target as_lines answers.old lines.old) }
+    ensures b_value { told (named_taken held (state_of words.old) (memory_at memory.now base) (decoded step a b)) ≡ told_by result }
+    ensures words_after { state_of words.new ≡ named_state held (state_of words.old) (memory_at memory.now base) (decoded step a b) }
+    ensures put { Put (target as_lines answers.old lines.old) place (text_by as_lines (Answered (named_taken held (state_of words.old) (memory_at memory.now base) (decoded step a b)).answer (names_access step))) (target as_lines answers.new lines.new) result.filled }
     ensures lines_unchanged { spared as_lines answers.new lines.new ≡ spared as_lines answers.old lines.old }
 {
     if as_lines {
@@ -65,9 +59,7 @@ pub(crate) fn put_step(
             filled,
         };
     }
-    let told = engine::step_into(
-        words, memory, base, ledger, held, step, a, b, answers, place,
-    );
+    let told = engine::step_into(words, memory, base, held, step, a, b, answers, place);
     StepLeft {
         held: told.held,
         remap: told.remap,

@@ -27,7 +27,7 @@ use Rattle.trap.specs.Return.{returned, may_return, return_step, may_wait, next_
 use Rattle.trap.specs.Time.{advanced, elapsed}
 use Rattle.trap.specs.Events.{event_step}
 use Rattle.trap.proofs.First.{chosen}
-use Rattle.trap.proofs.Status.{entered_status_holdable, returned_status_holdable, previous_mode-holdable}
+use Rattle.trap.proofs.Status.{entered_status_holdable, returned_status_holdable, previous_mode_holdable}
 
 abbrev pub Holdable : Outcome → Type 0
 Holdable o = registers_holdable o.registers ≡ true
@@ -42,8 +42,8 @@ handler-aligned tvec (Exception c) = base-aligned tvec
 handler-aligned tvec (Interrupt i) =
     choose aligned (eqb (tvec % 4) 1) _ _ (eq-eqb ((base tvec + 4 * i) % 2 ^ 64 % 4) 0 (omega arith)) (base-aligned tvec)
 
-pub next-aligned : (pc : ℕ) → aligned pc ≡ true → aligned ((pc + 4) % 2 ^ 64) ≡ true
-next-aligned pc p = eq-eqb ((pc + 4) % 2 ^ 64 % 4) 0 (omega (arith, eqb-true (pc % 4) 0 p))
+pub next_aligned : (pc : ℕ) → aligned pc ≡ true → aligned ((pc + 4) % 2 ^ 64) ≡ true
+next_aligned pc p = eq-eqb ((pc + 4) % 2 ^ 64 % 4) 0 (omega (arith, eqb-true (pc % 4) 0 p))
 
 -- a number of six bits
 six : (n : ℕ) → n < 64 → bit_and n 0x3F ≡ n
@@ -104,7 +104,7 @@ module _ (r : Registers) (p : registers_holdable r ≡ true) where
       let k = held r p in
       let l = level_held (level_of level r) (level_of_held level r p) in
       by_test Holdable (may_return level r) _ _
-      (λ t. flow_kept r p _ _ _ (previous_mode-holdable level r.mstatus k.mstatus) l.epc (returned_status_holdable level r.mstatus k.mstatus))
+      (λ t. flow_kept r p _ _ _ (previous_mode_holdable level r.mstatus k.mstatus) l.epc (returned_status_holdable level r.mstatus k.mstatus))
       (λ t. illegal_instruction_holdable)
 
   pub event_holdable : (event : Event) → Holdable (event_step r event)
@@ -118,7 +118,7 @@ module _ (r : Registers) (p : registers_holdable r ≡ true) where
   event_holdable Mret = return_step-holdable Machine
   event_holdable Sret = return_step-holdable Supervisor
   event_holdable Wfi =
-      by_test Holdable (may_wait r) _ _ (λ t. pc_holdable (next_pc r) (next-aligned r.pc (held r p).pc)) (λ t. illegal_instruction_holdable)
+      by_test Holdable (may_wait r) _ _ (λ t. pc_holdable (next_pc r) (next_aligned r.pc (held r p).pc)) (λ t. illegal_instruction_holdable)
   event_holdable Ecall = raised-holdable (8 + r.mode % 4) 0 none (omega arith)
   event_holdable Ebreak = raised-holdable 3 0 none (omega arith)
   event_holdable (Advance target) =

@@ -54,9 +54,9 @@ entered_kept level =
 abbrev entered_mpp_is : Level → E → G
 entered_mpp_is level mpp = imp (and (var 2) (lit (pp_mask level))) (var 2) (eq (and (entered_e level) (lit (pp_mask Machine))) mpp)
 
-entered-check : (level : Level) → check 3 (entered_kept level) ≡ true
-entered-check Supervisor = refl
-entered-check Machine = refl
+entered_check : (level : Level) → check 3 (entered_kept level) ≡ true
+entered_check Supervisor = refl
+entered_check Machine = refl
 
 entered_mpp_held : (level : Level) (mode x : ℕ) → is_mode mode ≡ true → not (eqb (bit_and x (pp_mask Machine)) mpp_two) ≡ true
     → not (eqb (bit_and (eval (x ∷ x * 16 ∷ mode % pp_modes level * pp_unit level ∷ []) (entered_e level)) (pp_mask Machine)) mpp_two) ≡ true
@@ -73,7 +73,7 @@ entered_status_holdable level mode x m p =
     rw (moved_up level x)
     (join _ _
     (eq-eqb _ _
-    (solve (entered_kept level) (x ∷ x * 16 ∷ mode % pp_modes level * pp_unit level ∷ []) (entered-check level) (kept x p) (at_pp level mode)))
+    (solve (entered_kept level) (x ∷ x * 16 ∷ mode % pp_modes level * pp_unit level ∷ []) (entered_check level) (kept x p) (at_pp level mode)))
     (entered_mpp_held level mode x m (status_held x p).mpp))
 
 -- ---- return: var 0 is mstatus, var 1 mstatus four places down, var 2 the bits that are left beside x_ie and x_pp
@@ -106,9 +106,9 @@ returned_mpp Machine = lit 0
 abbrev returned_mpp_is : Level → G
 returned_mpp_is level = all_but_mprv (eq (and (returned_e level) (lit (pp_mask Machine))) (returned_mpp level))
 
-returned-check : (level : Level) → (check 3 (returned_kept level) ≡ true) × (check 3 (returned_mpp_is level) ≡ true)
-returned-check Supervisor = (refl, refl)
-returned-check Machine = (refl, refl)
+returned_check : (level : Level) → (check 3 (returned_kept level) ≡ true) × (check 3 (returned_mpp_is level) ≡ true)
+returned_check Supervisor = (refl, refl)
+returned_check Machine = (refl, refl)
 
 mpp_held : (level : Level) (x y z : ℕ) → not (eqb (bit_and x (pp_mask Machine)) mpp_two) ≡ true
     → not (eqb (eval (x ∷ y ∷ z ∷ []) (returned_mpp level)) mpp_two) ≡ true
@@ -118,7 +118,7 @@ mpp_held Machine x y z p = refl
 pub returned_status_holdable : (level : Level) (mstatus : ℕ) → status_holdable mstatus ≡ true → status_holdable (returned_status level mstatus) ≡ true
 unfolding returned_status
 returned_status_holdable level x p =
-    let w = returned-check level in
+    let w = returned_check level in
     let left = 2 ^ 64 - 1 - cleared_mprv (previous_mode level x) in
     let l = all_but_mprv_lem (eqb (previous_mode level x) 3) in
     rw (moved_down level x)
@@ -127,12 +127,12 @@ returned_status_holdable level x p =
 
 -- ---- x_pp names a mode
 
-pub previous_mode-holdable : (level : Level) (mstatus : ℕ) → status_holdable mstatus ≡ true → is_mode (previous_mode level mstatus) ≡ true
-previous_mode-holdable Supervisor x p =
+pub previous_mode_holdable : (level : Level) (mstatus : ℕ) → status_holdable mstatus ≡ true → is_mode (previous_mode level mstatus) ≡ true
+previous_mode_holdable Supervisor x p =
     let e : previous_mode Supervisor x ≡ x / 0x100 % 2 = rw (and_high x 1 8) (omega arith) in
     rw e
     (field_cases (λ (v : ℕ). v < 2 → is_mode v ≡ true) (λ h. refl) (λ h. refl) (λ h. absurd (omega arith)) (λ h. refl) (x / 0x100 % 2) (omega arith) (omega arith))
-previous_mode-holdable Machine x p =
+previous_mode_holdable Machine x p =
     let e : previous_mode Machine x ≡ x / 0x800 % 4 = rw (and_high x 2 11) (omega arith) in
     rw e
     (field_cases (λ (v : ℕ). not (eqb (v * 0x800) mpp_two) ≡ true → is_mode v ≡ true) (λ q. refl) (λ q. refl) (λ q. q) (λ q. refl)

@@ -1,4 +1,4 @@
-//! Random states, grains, maps, steps, texts, ledgers and page tables, biased to where programs go
+//! Random states, grains, maps, steps, texts and page tables, biased to where programs go
 //! wrong, the shapes of NAPOT registers, and settings that make many ranges.
 
 mod address;
@@ -6,7 +6,6 @@ mod damage;
 mod entries;
 mod grain;
 mod interrupts;
-mod ledger;
 mod map;
 mod memory;
 mod napot;
@@ -21,7 +20,6 @@ pub use address::{address, near_range};
 pub use damage::Damage;
 pub use grain::grain;
 pub use interrupts::mixed_delegation;
-pub use ledger::{ledger, no_tenant};
 pub use map::map;
 pub use memory::memory;
 pub use napot::napot_registers;

@@ -1,5 +1,5 @@
 -- `memory_text::read` meets its contract. Assumes nothing.
-use Rattle.memory_text.proofs.Form.{text-sized, words_from, words-start, words_more, words-all, not_taken, broken-refused, long_refused, is_taken_lem, all-stored}
+use Rattle.memory_text.proofs.Form.{text_sized, words_from, words-start, words_more, words-all, not_taken, broken-refused, long_refused, is_taken_lem, all-stored}
 use Rattle.memory_text.specs.MemoryText.{word_count, most_words, is_memory_text, memory_in}
 use Rattle.lines.proofs.Reading.{word_within}
 use Rattle.lines.specs.declared.Field.{Field}
@@ -30,7 +30,7 @@ sized c =
     let t = c.before.before.before.before.args.text.now in
     let r = c.before.is-memory-text in
     let e : is_memory_text t ≡ true = sym r.ensures ∙ not-false r.result c.if1.false in
-    let s = text-sized t e in
+    let s = text_sized t e in
     (e, s.0, s.1)
 
 returns : tie.Need-returns invariant-loop decreases-loop

@@ -2,24 +2,24 @@ use mathlib.Core.Path.{refl}
 use borrow.Author.Rules.{rules}
 use borrow.Author.Tests.{not-false}
 use Rattle.replay_stream.specs.Streams.{memory_of}
-use Rattle.replay_stream.proofs.Streaming.{unlent, text_lent}
+use Rattle.replay_stream.proofs.Streaming.{unlent, text-lent}
 use Rattle.replay_stream.proofs.lend_read.Statement.{statement}
 use Rattle.replay_stream.proofs.lend_read.Tie as tie
 
 returns : tie.Need-returns
-returns c = unlent _ memory_of refl refl
+returns c = unlent memory_of refl refl
 
 returns-2 : tie.Need-returns-2
-returns-2 c = unlent _ memory_of refl refl
+returns-2 c = unlent memory_of refl refl
 
 returns-3 : tie.Need-returns-3
-returns-3 c = unlent _ memory_of refl refl
+returns-3 c = unlent memory_of refl refl
 
 returns-4 : tie.Need-returns-4
 returns-4 c =
     let e = c.before.before.before.before in
     let r = e.before.before in
-    text_lent _ _ _ r.read.ensures.0 r.read.ensures.1.0 (not-false _ e.if3.false) c.replay.ensures
+    text-lent _ _ r.read.ensures.0 r.read.ensures.1.0 (not-false _ e.if3.false) c.replay.ensures
 
 pub lend-read-spec : {M : Type 1} → statement M
 lend-read-spec =

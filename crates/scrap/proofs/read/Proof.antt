@@ -108,10 +108,10 @@ module _ {M : Type 1} {𝓤 : Ura M} (𝓛 : Logic 𝓤) (at_mem : Memory → SP
   new_said : (c : Scrap) → ent 𝓤 (ensured 𝓛 new'.ended (new'.clauses 𝓛 at_mem run) (κ0, tt) (s, (i, tt)) tt c) (fact 𝓤 ((c.bytes ≡ s) × (c.at ≡ i)))
   new_said c = ex_e 𝓤 _ (λ ws. snd∗ 𝓤 (sem 𝓛 (lasts new'.ended (κ0, tt) (s, (i, tt)) ws)) (fact 𝓤 ((c.bytes ≡ s) × (c.at ≡ i))))
 
-  abbrev to-next : Scrap → Val → (next_called 𝓛 at_mem run).Ghost
-  to-next c v = (((κ0, tt), (q0, tt), tt, (c, tt), (v ∷ [], tt)), tt)
+  abbrev to_next : Scrap → Val → (next_called 𝓛 at_mem run).Ghost
+  to_next c v = (((κ0, tt), (q0, tt), tt, (c, tt), (v ∷ [], tt)), tt)
 
-  asks_next : (c : Scrap) (v : Val) → ent 𝓤 (⋆ 𝓛 (((‵ (flft κ0 q0) ⊛ ‵ ftrue) ⊛ ‵ ((B (κ0, tt)).own c (v ∷ []))) ∷ [])) ((next_called 𝓛 at_mem run).pre (to-next c v))
+  asks_next : (c : Scrap) (v : Val) → ent 𝓤 (⋆ 𝓛 (((‵ (flft κ0 q0) ⊛ ‵ ftrue) ⊛ ‵ ((B (κ0, tt)).own c (v ∷ []))) ∷ [])) ((next_called 𝓛 at_mem run).pre (to_next c v))
   asks_next c v = qed 𝓛 (((‵ (flft κ0 q0) ⊛ ‵ ftrue) ⊛ ‵ ((B (κ0, tt)).own c (v ∷ []))) ∷ []) ∵ split ! $ nothing ! $ move ! (2 ∷ 0 ∷ []) $ fjoin ! $ move ! (1 ∷ 0 ∷ []) $ join ! $ frame ! $ done !
 
   next_said : (c : Scrap) (r : Numbers) → ent 𝓤 (ensured 𝓛 next'.ended (next'.clauses 𝓛 at_mem run) (κ0, tt) (c, tt) tt r) (fact 𝓤 (r ≡ after c))
@@ -134,9 +134,9 @@ module _ {M : Type 1} {𝓤 : Ura M} (𝓛 : Logic 𝓤) (at_mem : Memory → SP
         use1 𝓛 (later (some (λ (c : Scrap). ((‵ (flft κ0 q0) ⊛ ‵ ftrue) ⊛ ‵ ((B (κ0, tt)).own c (v ∷ []))) ⊛ raw (ensured 𝓛 new'.ended (new'.clauses 𝓛 at_mem run) (κ0, tt) (s, (i, tt)) tt c)))) (id⊢ 𝓤 _) $ await ! tt $ pick ! (λ c.
         split ! $ move ! (1 ∷ []) $ use1 𝓛 (raw (fact 𝓤 ((c.bytes ≡ s) × (c.at ≡ i)))) (new_said c) $ heard ! ((c.bytes ≡ s) × (c.at ≡ i)) (λ e. split ! $ move ! (1 ∷ []) $
         peeks ! (B (κ0, tt)) (Is (B (κ0, tt))) (shows 𝓛 (B (κ0, tt))) c (v ∷ []) (λ is.
-        land ! (from ! (stop !)) (init ! 5 refl ((LL.lawful (T.the_type αᵉ) (T'.the_laws αᵉ) 𝓛).typed c _ is).0) $ move ! (1 ∷ []) $ split ! $ move ! (1 ∷ []) $ drop ! $ move ! (0 ∷ 2 ∷ []) $ join ! $ join ! $ use1 𝓛 (raw ((next_called 𝓛 at_mem run).pre (to-next c v))) (asks_next c v) $
+        land ! (from ! (stop !)) (init ! 5 refl ((LL.lawful (T.the_type αᵉ) (T'.the_laws αᵉ) 𝓛).typed c _ is).0) $ move ! (1 ∷ []) $ split ! $ move ! (1 ∷ []) $ drop ! $ move ! (0 ∷ 2 ∷ []) $ join ! $ join ! $ use1 𝓛 (raw ((next_called 𝓛 at_mem run).pre (to_next c v))) (asks_next c v) $
         -- [call; own s kept; owns; _3; d3; _2; d2; _1; d1; _0; d0]
-        calls_at ! fm (next_called 𝓛 at_mem run) known_next (to-next c v) (and_then ! (load ! (from ! (stop !)) (look ! 3 refl)) (no_more !)) (λ u.
+        calls_at ! fm (next_called 𝓛 at_mem run) known_next (to_next c v) (and_then ! (load ! (from ! (stop !)) (look ! 3 refl)) (no_more !)) (λ u.
         use1 𝓛 (later (some (λ (r : Numbers). ((‵ (flft κ0 q0) ⊛ ‵ ftrue) ⊛ ‵ ((NumbersT.the_row).own_val r (u ∷ []))) ⊛ raw (ensured 𝓛 next'.ended (next'.clauses 𝓛 at_mem run) (κ0, tt) (c, tt) tt r)))) (id⊢ 𝓤 _) $ await ! tt $ pick ! (λ r.
         split ! $ move ! (1 ∷ []) $ use1 𝓛 (raw (fact 𝓤 (r ≡ after c))) (next_said c r) $ heard ! (r ≡ after c) (λ e'. split ! $ move ! (1 ∷ []) $
         peeks ! NumbersT.the_row (Is (NumbersT.the_row)) (shows 𝓛 (NumbersT.the_row)) r (u ∷ []) (λ is'.

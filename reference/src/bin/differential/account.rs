@@ -1,14 +1,11 @@
 //! What a feed must do, worked out apart from the model's reader: all its bytes at once,
 //! cut into records.
 
-use reference::history::{Event, History};
 use reference::{
-    ANSWER_WORDS, Hart, MOST_CARRIED, Map, PLACE_WORDS, RECORD_LENGTH, Refusal, Step, TENANT_STEP,
-    step,
+    ANSWER_WORDS, Hart, MOST_CARRIED, Map, PLACE_WORDS, RECORD_LENGTH, Refusal, Step, step,
 };
 
 use crate::feeding::Kept;
-use crate::lent::LentLedger;
 use crate::records::{Flaw, judge};
 
 /// What a feed takes, answers and leaves.
@@ -20,8 +17,6 @@ pub struct Account {
     pub stopped: bool,
     pub hart: Hart,
     pub map: Map,
-    /// Since the ledger was lent, if one is.
-    pub history: Option<History>,
     /// Whether a step was a reset or changed a protection register.
     pub made_anew: bool,
     /// What is wrong with the record at which the reader stopped.
@@ -43,7 +38,6 @@ impl Account {
             stopped: stopped == 1,
             hart: Hart::from_words(&kept.lent.hart),
             map: Map::from_words(&kept.lent.map),
-            history: kept.lent.ledger.map(History::from),
             made_anew: false,
             flaw: None,
             healed: false,
@@ -60,7 +54,7 @@ impl Account {
         let carried = kept.carried();
         let bytes = [carried, scrap].concat();
         for record in bytes.chunks_exact(RECORD_LENGTH).take(room) {
-            match judge(record, self.history.is_some()) {
+            match judge(record) {
                 Ok(words) => self.step(kept, words),
                 Err(flaw) => {
                     self.answers.push([5, 8, self.number, 0]);
@@ -74,36 +68,15 @@ impl Account {
         self.left = bytes[RECORD_LENGTH * self.answers.len()..held].to_vec();
     }
 
-    fn step(&mut self, kept: &Kept, words: [u64; 3]) {
-        let (before, reset) = (self.hart, words[0] == 0);
-        let answer = self.answer(kept, words);
-        if let Some(history) = &mut self.history {
-            history.add(Event::Step { words, mode: before.mode, answer });
-        }
-        self.was_reset |= reset;
-        self.made_anew |= reset || protection(&before) != protection(&self.hart);
-        self.healed |= reset && !before.can_hold() && self.refused(Refusal::State);
-        self.answers.push(answer);
+    fn step(&mut self, kept: &Kept, [number, a, b]: [u64; 3]) {
+        let next = Step::from_words(number, a, b).expect("a step there is");
+        let before = self.hart;
+        let answer = step(&mut self.hart, &mut self.map, kept.lent.memory(), next);
+        self.was_reset |= next == Step::Reset;
+        self.made_anew |= next == Step::Reset || protection(&before) != protection(&self.hart);
+        self.healed |= next == Step::Reset && !before.can_hold() && self.refused(Refusal::State);
+        self.answers.push(answer.words());
         self.number = self.number.wrapping_add(1);
-    }
-
-    /// What the history refuses is no step of the hart, and neither is step 18.
-    fn answer(&mut self, kept: &Kept, words: [u64; 3]) -> [u64; ANSWER_WORDS] {
-        let held = self.hart.can_hold();
-        let history = self.history.as_ref();
-        match history.and_then(|history| history.refusal(words, self.hart.mode, held)) {
-            Some(number) => [5, number, 0, 0],
-            None if words[0] == TENANT_STEP => [0, 0, 0, 0],
-            None => {
-                let next = Step::from_words(words[0], words[1], words[2]).expect("a step there is");
-                step(&mut self.hart, &mut self.map, kept.lent.memory(), next).words()
-            }
-        }
-    }
-
-    /// The ledger that the feed leaves.
-    pub fn ledger(&self) -> LentLedger {
-        self.history.as_ref().map(History::ledger)
     }
 
     /// Whether protection registers were changed and are what they were.

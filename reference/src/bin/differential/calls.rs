@@ -3,7 +3,7 @@
 
 use reference::capi;
 use reference::random::Random;
-use reference::{ANSWER_WORDS, HART_WORDS, MAP_WORDS, Memory, STEP_WORDS};
+use reference::{ANSWER_WORDS, HART_WORDS, MAP_WORDS, STEP_WORDS};
 
 use crate::lent::Lent;
 use crate::queries::random_question;
@@ -31,25 +31,12 @@ pub fn wrong(sizes: &Sizes) -> Result<(), Difference> {
 pub struct Slices {
     pub hart: Vec<u64>,
     pub map: Vec<u64>,
-    pub ledger: Vec<u64>,
     pub answer: Vec<u64>,
 }
 
 impl Slices {
     pub fn new(lent: &Lent, answer: usize) -> Slices {
-        let ledger = lent.ledger.map_or(Vec::new(), Vec::from);
-        let (hart, map) = (lent.hart.to_vec(), lent.map.to_vec());
-        Slices { hart, map, ledger, answer: vec![0x77; answer] }
-    }
-
-    pub fn step(&mut self, memory: Memory, words: [u64; STEP_WORDS]) -> u64 {
-        let Slices { hart, map, ledger, answer } = self;
-        capi::step(hart, map, memory, ledger, words, answer)
-    }
-
-    pub fn run(&mut self, memory: Memory, steps: &[u64]) -> u64 {
-        let Slices { hart, map, ledger, answer } = self;
-        capi::run(hart, map, memory, ledger, steps, answer)
+        Slices { hart: lent.hart.to_vec(), map: lent.map.to_vec(), answer: vec![0x77; answer] }
     }
 
     /// Gives one of the slices another length.
@@ -74,12 +61,11 @@ pub fn judge(call: u64, before: &Slices, after: &Slices, told: &str) -> Result<(
     if call == 0 && before == after {
         return Ok(());
     }
-    let Slices { hart, map, ledger, answer } = before;
-    let [hart, map, ledger, answer] = [hart, map, ledger, answer].map(Vec::len);
+    let [hart, map, answer] = [before.hart.len(), before.map.len(), before.answer.len()];
     let changed = if before == after { "nothing" } else { "something" };
     Err(format!(
-        "{told}\nhart of {hart} words, map of {map}, ledger of {ledger}, answers of {answer}: must \
-         give 0 and change nothing; product gives {call} and changes {changed}\nbefore {before:x?}\nafter {after:x?}"
+        "{told}\nhart of {hart} words, map of {map}, answers of {answer}: must give 0 and change \
+         nothing; product gives {call} and changes {changed}\nbefore {before:x?}\nafter {after:x?}"
     ))
 }
 
@@ -92,7 +78,7 @@ fn wrong_step(random: &mut Random, lent: &Lent) -> Result<(), String> {
         before.spoil(random);
     }
     let mut after = before.clone();
-    let call = after.step(lent.memory(), words);
+    let call = capi::step(&mut after.hart, &mut after.map, lent.memory(), words, &mut after.answer);
     judge(call, &before, &after, &format!("step {words:x?}"))
 }
 
@@ -113,7 +99,7 @@ fn wrong_run(random: &mut Random, lent: &Lent) -> Result<(), String> {
         }
     }
     let mut after = before.clone();
-    let call = after.run(lent.memory(), &steps);
+    let call = capi::run(&mut after.hart, &mut after.map, lent.memory(), &steps, &mut after.answer);
     judge(call, &before, &after, &format!("run of {} words {steps:x?}", steps.len()))
 }
 

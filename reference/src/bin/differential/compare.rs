@@ -3,7 +3,7 @@
 use reference::{ANSWER_WORDS, MAP_WORDS, STEP_WORDS};
 
 use crate::lent::{Lent, Outcome};
-use crate::report::{answer_text, ledger_difference, map_text, state_difference};
+use crate::report::{answer_text, map_text, state_difference};
 
 /// Where two maps differ. Of a map made anew only the ranges it lists are
 /// fixed; one handed back as given must have every word as before.
@@ -25,7 +25,7 @@ pub fn map_difference(
     ))
 }
 
-/// Where two results differ: answers, states, ledgers or maps.
+/// Where two results differ: answers, states or maps.
 pub fn result_difference(expected: &Outcome, found: &Outcome, made_anew: bool) -> Option<String> {
     let mut text = String::new();
     if expected.1 != found.1 {
@@ -34,7 +34,6 @@ pub fn result_difference(expected: &Outcome, found: &Outcome, made_anew: bool) -
     if expected.0.hart != found.0.hart {
         text += &format!("states differ\n{}", state_difference(&expected.0.hart, &found.0.hart));
     }
-    text += &ledger_difference(expected.0.ledger, found.0.ledger);
     if let Some(difference) = map_difference(&expected.0.map, &found.0.map, made_anew) {
         text += &difference;
     }
@@ -47,16 +46,15 @@ pub fn result_difference(expected: &Outcome, found: &Outcome, made_anew: bool) -
 
 /// One step on both sides, from the same state and map. Gives the answer.
 pub fn compare_step(lent: &Lent, words: [u64; STEP_WORDS]) -> Result<[u64; ANSWER_WORDS], String> {
-    step_outcome(lent, words).map(|(_, answer)| answer)
+    stepped(lent, words).map(|(_, answer)| answer)
 }
 
 /// The same, to go on from: gives what the product leaves.
 pub fn step_both(lent: &Lent, words: [u64; STEP_WORDS]) -> Result<Lent, String> {
-    step_outcome(lent, words).map(|(left, _)| left)
+    stepped(lent, words).map(|(left, _)| left)
 }
 
-/// The same, with the answer too.
-pub fn step_outcome(lent: &Lent, words: [u64; STEP_WORDS]) -> Result<Outcome, String> {
+fn stepped(lent: &Lent, words: [u64; STEP_WORDS]) -> Result<Outcome, String> {
     let expected = lent.reference_step(words);
     agreed(lent, words, &expected, lent.product_step(words))
 }

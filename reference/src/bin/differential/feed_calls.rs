@@ -23,7 +23,6 @@ pub struct Given {
     pub map: Vec<u64>,
     base: u64,
     memory: Vec<u64>,
-    pub ledger: Vec<u64>,
     scrap: Vec<u8>,
     pub answers: Vec<u64>,
 }
@@ -31,8 +30,8 @@ pub struct Given {
 impl Given {
     /// All in order, but for the word that tells whether the reader has stopped.
     pub fn random(random: &mut Random) -> Given {
-        let trace = trace(random, None);
-        let Kept { carried, place, lent: Lent { hart, map, words, base, ledger } } = trace.start;
+        let trace = trace(random);
+        let Kept { carried, place, lent: Lent { hart, map, words, base } } = trace.start;
         Given {
             carried: carried.to_vec(),
             place: place.to_vec(),
@@ -40,7 +39,6 @@ impl Given {
             map: map.to_vec(),
             base,
             memory: words.to_vec(),
-            ledger: ledger.map_or(Vec::new(), Vec::from),
             scrap: trace.bytes,
             answers: unwritten(random.index(20)),
         }
@@ -78,9 +76,9 @@ impl Given {
     /// Unless all fits, the feed must change nothing.
     pub fn judge(&self) -> Result<(), String> {
         let mut after = self.clone();
-        let Given { carried, place, hart, map, base, memory, ledger, scrap, answers } = &mut after;
+        let Given { carried, place, hart, map, base, memory, scrap, answers } = &mut after;
         let memory = reference::Memory { words: memory, base: *base };
-        let given = capi::feed(carried, place, hart, map, memory, ledger, scrap, answers);
+        let given = capi::feed(carried, place, hart, map, memory, scrap, answers);
         compare_left(&self.place)?;
         if self.fits() && !self.is_neither() {
             let most = self.scrap.len() as u64;

@@ -1,23 +1,22 @@
 //! Records with one thing changed at every place where it can be, a short trace cut at
-//! every two places, and every length and kind of word that a feed can be lent. Records with
-//! any step or argument, and traces that are cut, are fed with no ledger and with one.
+//! every two places, and every length and kind of word that a feed can be lent.
 
 use std::fmt::{self, Display, Formatter};
 
 use reference::random::Random;
 use reference::{
-    ANSWER_WORDS, HART_WORDS, MAP_WORDS, MOST_CARRIED, Metered, PLACE_WORDS, RECORD_LENGTH,
-    TENANT_STEP, generate, write_record,
+    ANSWER_WORDS, HART_WORDS, LAST_STEP, MAP_WORDS, MOST_CARRIED, PLACE_WORDS, RECORD_LENGTH, Step,
+    write_record,
 };
 
 use crate::account::Account;
 use crate::feed_calls::Given;
 use crate::feeding::{Kept, compare_feed, compare_left};
-use crate::ledgers::next_step;
 use crate::lent::Lent;
 use crate::near_powers::{WORDS, word};
 use crate::report::{Difference, Stage};
 use crate::sizes::Sizes;
+use crate::steps::random_step;
 
 /// How many cases there were of each kind.
 pub struct Walked {
@@ -27,20 +26,16 @@ pub struct Walked {
     cuts: u64,
     lengths: u64,
     places: u64,
-    /// Records and traces with a ledger.
-    metered: [u64; 3],
 }
 
 impl Display for Walked {
     fn fmt(&self, formatter: &mut Formatter) -> fmt::Result {
-        let Walked { bytes, steps, arguments, cuts, lengths, places, metered } = self;
+        let Walked { bytes, steps, arguments, cuts, lengths, places } = self;
         write!(
             formatter,
             "{bytes} records with one byte changed, {steps} with any step, {arguments} with any \
              argument, {cuts} traces cut at two places, {lengths} feeds of any lengths, {places} \
-             with any word in the place, and with a ledger {} records with any step, {} with any \
-             argument, {} traces cut at two places",
-            metered[0], metered[1], metered[2]
+             with any word in the place"
         )
     }
 }
@@ -48,16 +43,11 @@ impl Display for Walked {
 pub fn walk(sizes: &Sizes) -> Result<Walked, Difference> {
     Ok(Walked {
         bytes: walk_bytes(sizes)?,
-        steps: walk_steps(sizes, "records with any step", fresh)?,
-        arguments: walk_arguments(sizes, "records with any argument", fresh)?,
-        cuts: walk_cuts(sizes, "traces cut", fresh)?,
+        steps: walk_steps(sizes)?,
+        arguments: walk_arguments(sizes)?,
+        cuts: walk_cuts(sizes)?,
         lengths: walk_lengths(sizes)?,
         places: walk_places(sizes)?,
-        metered: [
-            walk_steps(sizes, "metered records with any step", metered)?,
-            walk_arguments(sizes, "metered records with any argument", metered)?,
-            walk_cuts(sizes, "metered traces cut", metered)?,
-        ],
     })
 }
 
@@ -67,20 +57,10 @@ fn fresh(random: &mut Random) -> Kept {
     Kept { carried: [0x77; MOST_CARRIED], place, lent: Lent::random(random) }
 }
 
-/// The same with a ledger.
-fn metered(random: &mut Random) -> Kept {
-    let kept = fresh(random);
-    let lent = kept.lent.clone().with_ledger(generate::ledger(random));
-    Kept { lent, ..kept }
-}
-
-/// Makes a reader to begin with.
-type Start = fn(&mut Random) -> Kept;
-
-/// A record of a step that suits what is lent, its unused arguments being 0.
+/// A record of a step that suits the state, its unused arguments being 0.
 fn record(random: &mut Random, lent: &Lent) -> [u8; RECORD_LENGTH] {
-    let [number, a, b] = next_step(random, lent);
-    write_record(Metered::from_words(number, a, b).expect("a step there is").to_words())
+    let [number, a, b] = random_step(random, lent);
+    write_record(Step::from_words(number, a, b).expect("a step there is").to_words())
 }
 
 /// One record, and one more behind it, cut anywhere.
@@ -108,23 +88,23 @@ fn walk_bytes(sizes: &Sizes) -> Result<u64, Difference> {
 }
 
 /// Every kind of word for the number of a step.
-fn walk_steps(sizes: &Sizes, name: &'static str, start: Start) -> Result<u64, Difference> {
+fn walk_steps(sizes: &Sizes) -> Result<u64, Difference> {
     let records = sizes.walks * WORDS;
-    Stage::new(name, sizes, records).run(|random, case| {
-        let kept = start(random);
+    Stage::new("records with any step", sizes, records).run(|random, case| {
+        let kept = fresh(random);
         compare_record(random, &kept, write_record([word(case % WORDS), 0, 0]))
     })?;
     Ok(records)
 }
 
-/// Every kind of word for each argument of each step, step 18 too.
-fn walk_arguments(sizes: &Sizes, name: &'static str, start: Start) -> Result<u64, Difference> {
-    let steps = TENANT_STEP + 1;
+/// Every kind of word for each argument of each step.
+fn walk_arguments(sizes: &Sizes) -> Result<u64, Difference> {
+    let steps = LAST_STEP + 1;
     let records = sizes.walks * 2 * steps * WORDS;
-    Stage::new(name, sizes, records).run(|random, case| {
+    Stage::new("records with any argument", sizes, records).run(|random, case| {
         let (step, word) = (case / 2 / WORDS % steps, word(case / 2 % WORDS));
         let arguments = if case % 2 == 0 { [step, word, 0] } else { [step, 0, word] };
-        let kept = start(random);
+        let kept = fresh(random);
         compare_record(random, &kept, write_record(arguments))
     })?;
     Ok(records)
@@ -136,13 +116,13 @@ const CUT_BYTES: usize = RECORD_LENGTH * CUT_RECORDS + 7;
 
 /// A trace cut at each two places, every third of them with a broken record. What it leaves
 /// must be what it leaves uncut.
-fn walk_cuts(sizes: &Sizes, name: &'static str, start: Start) -> Result<u64, Difference> {
+fn walk_cuts(sizes: &Sizes) -> Result<u64, Difference> {
     let places = CUT_BYTES + 1;
     let traces = sizes.walks * (places * places) as u64;
-    Stage::new(name, sizes, traces).run(|random, case| {
+    Stage::new("traces cut", sizes, traces).run(|random, case| {
         let [one, other] = [case as usize % places, case as usize / places % places];
         let (first, second) = (one.min(other), one.max(other));
-        let kept = start(random);
+        let kept = fresh(random);
         let mut bytes: Vec<u8> =
             (0..=CUT_RECORDS).flat_map(|_| record(random, &kept.lent)).take(CUT_BYTES).collect();
         if random.once_in(3) {
@@ -178,8 +158,7 @@ fn compare_scraps(
     let same = kept.carried == carried
         && kept.place[..3] == place[..3]
         && answers == whole.answers
-        && kept.lent.hart == whole.hart.to_words()
-        && kept.lent.ledger == whole.ledger();
+        && kept.lent.hart == whole.hart.to_words();
     if same { Ok(()) } else { Err("the trace in scraps leaves something else than uncut".into()) }
 }
 

@@ -1,12 +1,12 @@
 //! One feed on both sides, with all that is lent compared.
 
 use reference::capi;
-use reference::{ANSWER_WORDS, Hart, Ledger, MOST_CARRIED, Map, PLACE_WORDS, Reader};
+use reference::{ANSWER_WORDS, Hart, MOST_CARRIED, Map, PLACE_WORDS, Reader};
 
 use crate::account::Account;
 use crate::compare::map_difference;
-use crate::lent::{Lent, UNWRITTEN, slice};
-use crate::report::{ledger_difference, show, state_difference};
+use crate::lent::{Lent, UNWRITTEN};
+use crate::report::{show, state_difference};
 
 /// What is kept from one feed to the next, and the memory lent to the next.
 #[derive(Clone, PartialEq, Eq)]
@@ -58,27 +58,18 @@ fn reference_feed(kept: &Kept, scrap: &[u8], room: usize) -> Fed {
     let (mut hart, mut map) = (Hart::from_words(&kept.lent.hart), Map::from_words(&kept.lent.map));
     let mut answers = unwritten(room);
     let room = answers.as_chunks_mut::<ANSWER_WORDS>().0;
-    let memory = kept.lent.memory();
-    let lent = kept.lent.ledger.map(|words| Ledger::from_words(&words).expect("in the form"));
-    let (ledger, (taken, written)) = match lent {
-        None => (None, reader.feed(&mut hart, &mut map, memory, scrap, room)),
-        Some(mut ledger) => {
-            let fed = reader.feed_metered(&mut hart, &mut map, memory, &mut ledger, scrap, room);
-            (Some(ledger.to_words()), fed)
-        }
-    };
+    let (taken, written) = reader.feed(&mut hart, &mut map, kept.lent.memory(), scrap, room);
     let (carried, [count, number, stopped]) = reader.to_words();
     let place = [count, number, stopped, written as u64];
-    let kept = Kept { carried, place, lent: Lent { ledger, ..kept.lent.left(&hart, &map) } };
+    let kept = Kept { carried, place, lent: kept.lent.left(&hart, &map) };
     Fed { taken: taken as u64, kept, answers }
 }
 
 fn product_feed(kept: &Kept, scrap: &[u8], room: usize) -> Fed {
     let mut after = kept.clone();
     let mut answers = unwritten(room);
-    let Kept { carried, place, lent: Lent { hart, map, ledger, .. } } = &mut after;
-    let (memory, ledger) = (kept.lent.memory(), slice(ledger));
-    let taken = capi::feed(carried, place, hart, map, memory, ledger, scrap, &mut answers);
+    let Kept { carried, place, lent: Lent { hart, map, .. } } = &mut after;
+    let taken = capi::feed(carried, place, hart, map, kept.lent.memory(), scrap, &mut answers);
     Fed { taken, kept: after, answers }
 }
 
@@ -121,7 +112,6 @@ fn agree(account: &Account, fed: &Fed) -> bool {
         && account.reader() == (*carried, *place)
         && account.answers.as_flattened() == &fed.answers[..written]
         && account.hart.to_words() == lent.hart
-        && account.ledger() == lent.ledger
         && account.map.to_words() == lent.map
 }
 
@@ -143,9 +133,7 @@ fn difference(expected: &Fed, found: &Fed, made_anew: bool) -> Option<String> {
     if expected.kept.lent.hart != found.kept.lent.hart {
         text += &state_difference(&expected.kept.lent.hart, &found.kept.lent.hart);
     }
-    let [expected, found] = [expected, found].map(|fed| &fed.kept.lent);
-    text += &ledger_difference(expected.ledger, found.ledger);
-    let [expected, found] = [expected, found].map(|lent| &lent.map);
+    let [expected, found] = [expected, found].map(|fed| &fed.kept.lent.map);
     text += &map_difference(expected, found, made_anew).unwrap_or_default();
     (!text.is_empty()).then_some(text)
 }

@@ -11,8 +11,8 @@ use crate::classes::Tally;
 use crate::compare::map_difference;
 use crate::feed_classes::{Case, FEEDS, Fed, TRACES};
 use crate::feeding::{Kept, compare_feed, reader_difference, unwritten};
-use crate::lent::{Lent, slice};
-use crate::report::{Difference, Stage, ledger_difference, state_difference};
+use crate::lent::Lent;
+use crate::report::{Difference, Stage, state_difference};
 use crate::sizes::Sizes;
 use crate::traces::{Memory, Trace, trace};
 
@@ -32,24 +32,15 @@ pub fn random(sizes: &Sizes) -> Result<Feeds, Difference> {
     let mut counts =
         Feeds { feeds: Tally::new("feeds", &FEEDS), traces: Tally::new("traces", &TRACES) };
     Stage::new("feeds", sizes, sizes.feeds).run(|random, _| {
-        let trace = trace(random, None);
-        counts.traces.count(&compare_trace(random, &trace, &mut counts.feeds)?);
+        let trace = trace(random);
+        let fed = feed_in_scraps(random, &trace, &mut counts.feeds)?;
+        compare_pieces(&trace, &fed)?;
+        counts.traces.count(&fed);
         Ok(())
     })?;
     counts.feeds.check("feeds")?;
     counts.traces.check("feeds")?;
     Ok(counts)
-}
-
-/// The trace in scraps, each of them counted, and in one piece.
-pub fn compare_trace(
-    random: &mut Random,
-    trace: &Trace,
-    feeds: &mut Tally<Case>,
-) -> Result<Fed, String> {
-    let fed = feed_in_scraps(random, trace, feeds)?;
-    compare_pieces(trace, &fed)?;
-    Ok(fed)
 }
 
 /// Only a trace of fewer bytes is cut into short scraps alone.
@@ -136,8 +127,8 @@ fn compare_pieces(trace: &Trace, fed: &Fed) -> Result<(), String> {
         let mut given = unwritten(piece.len() / RECORD_LENGTH + 1);
         let (before, Kept { carried, place, lent }) = (kept.clone(), &mut kept);
         let memory = before.lent.memory();
-        let Lent { hart, map, ledger, .. } = lent;
-        let taken = capi::feed(carried, place, hart, map, memory, slice(ledger), piece, &mut given);
+        let taken =
+            capi::feed(carried, place, &mut lent.hart, &mut lent.map, memory, piece, &mut given);
         if taken != piece.len() as u64 {
             return Err(format!("of a piece of {} bytes {taken} are taken", piece.len()));
         }
@@ -150,7 +141,6 @@ fn compare_pieces(trace: &Trace, fed: &Fed) -> Result<(), String> {
         text += "answers differ\n";
     }
     text += &state_difference(&fed.end.lent.hart, &kept.lent.hart);
-    text += &ledger_difference(fed.end.lent.ledger, kept.lent.ledger);
     text += &map_difference(&fed.end.lent.map, &kept.lent.map, fed.made_anew).unwrap_or_default();
     if text.is_empty() {
         return Ok(());

@@ -1,7 +1,7 @@
 //! Every length of short lists of steps with every length of their answers.
 
 use reference::random::Random;
-use reference::{ANSWER_WORDS, STEP_WORDS};
+use reference::{ANSWER_WORDS, STEP_WORDS, capi};
 
 use crate::calls::{Slices, judge};
 use crate::lent::Lent;
@@ -35,6 +35,6 @@ fn misfit(random: &mut Random, lent: &Lent, steps: usize, answers: usize) -> Res
     words.truncate(steps);
     let before = Slices::new(lent, answers);
     let mut after = before.clone();
-    let call = after.run(lent.memory(), &words);
+    let call = capi::run(&mut after.hart, &mut after.map, lent.memory(), &words, &mut after.answer);
     judge(call, &before, &after, &format!("run of {steps} words {words:x?}"))
 }

@@ -5,11 +5,10 @@ use std::rc::Rc;
 
 use reference::random::Random;
 use reference::{
-    ANSWER_WORDS, Answer, HART_WORDS, Hart, LEDGER_WORDS, Ledger, MAP_WORDS, Map, Memory, Metered,
-    STEP_WORDS, Step, capi, generate, metered_step, step,
+    ANSWER_WORDS, HART_WORDS, Hart, MAP_WORDS, Map, Memory, STEP_WORDS, Step, capi, generate, step,
 };
 
-use crate::report::{ledger_text, map_text, memory_text, show, state_text};
+use crate::report::{map_text, memory_text, show, state_text};
 
 /// The words of an answer before a call, unlike those of any answer, so that each
 /// has to be written.
@@ -21,23 +20,19 @@ const PROTECTION: Range<usize> = 23..41;
 /// What a step leaves, and its answer.
 pub type Outcome = (Lent, [u64; ANSWER_WORDS]);
 
-/// The words of a ledger, or none.
-pub type LentLedger = Option<[u64; LEDGER_WORDS]>;
-
-/// The words of a hart and its map, those for page tables with their base, and the ledger.
+/// The words of a hart and its map, and those for page tables with their base.
 #[derive(Clone, PartialEq, Eq)]
 pub struct Lent {
     pub hart: [u64; HART_WORDS],
     pub map: [u64; MAP_WORDS],
     pub words: Rc<[u64]>,
     pub base: u64,
-    pub ledger: LentLedger,
 }
 
 impl Lent {
-    /// With no words at address 0, and no ledger.
+    /// With no words at address 0.
     pub fn new(hart: [u64; HART_WORDS], map: [u64; MAP_WORDS]) -> Lent {
-        Lent { hart, map, words: Rc::new([]), base: 0, ledger: None }
+        Lent { hart, map, words: Rc::new([]), base: 0 }
     }
 
     /// The same with words at an address.
@@ -45,12 +40,7 @@ impl Lent {
         Lent { words, base, ..self }
     }
 
-    /// The same with a ledger.
-    pub fn with_ledger(self, words: [u64; LEDGER_WORDS]) -> Lent {
-        Lent { ledger: Some(words), ..self }
-    }
-
-    /// The same words for page tables and ledger with another hart and map.
+    /// The same words for page tables with another hart and map.
     pub fn left(&self, hart: &Hart, map: &Map) -> Lent {
         Lent { hart: hart.to_words(), map: map.to_words(), ..self.clone() }
     }
@@ -73,16 +63,15 @@ impl Lent {
 
     pub fn text(&self) -> String {
         let [state, map] = [state_text(&self.hart), map_text(&self.map)];
-        let [memory, ledger] = [memory_text(self.memory()), ledger_text(self.ledger)];
-        format!("state\n{state}map\n{map}{memory}{ledger}")
+        format!("state\n{state}map\n{map}{}", memory_text(self.memory()))
     }
 
     pub fn reference_step(&self, words: [u64; STEP_WORDS]) -> Outcome {
         let mut hart = Hart::from_words(&self.hart);
         let mut map = Map::from_words(&self.map);
-        let mut ledger = self.ledger;
-        let answer = model_step(&mut hart, &mut map, self.memory(), &mut ledger, words);
-        (Lent { ledger, ..self.left(&hart, &map) }, answer.words())
+        let next = Step::from_words(words[0], words[1], words[2]).expect("a step there is");
+        let answer = step(&mut hart, &mut map, self.memory(), next).words();
+        (self.left(&hart, &map), answer)
     }
 
     /// The product's step, which must find all it is lent in order.
@@ -92,8 +81,8 @@ impl Lent {
 
     /// The same by a run of this step alone.
     pub fn product_run(&self, words: [u64; STEP_WORDS]) -> Result<Outcome, String> {
-        self.product_call("run", words, |hart, map, memory, ledger, words, answer| {
-            capi::run(hart, map, memory, ledger, &words, answer)
+        self.product_call("run", words, |hart, map, memory, words, answer| {
+            capi::run(hart, map, memory, &words, answer)
         })
     }
 
@@ -101,13 +90,12 @@ impl Lent {
         &self,
         name: &str,
         words: [u64; STEP_WORDS],
-        call: impl Fn(&mut [u64], &mut [u64], Memory, &mut [u64], [u64; STEP_WORDS], &mut [u64]) -> u64,
+        call: impl Fn(&mut [u64], &mut [u64], Memory, [u64; STEP_WORDS], &mut [u64]) -> u64,
     ) -> Result<Outcome, String> {
         show(|| format!("{}{name} {words:x?}", self.text()));
         let mut after = self.clone();
         let mut answer = UNWRITTEN;
-        let Lent { hart, map, ledger, .. } = &mut after;
-        match call(hart, map, self.memory(), slice(ledger), words, &mut answer) {
+        match call(&mut after.hart, &mut after.map, self.memory(), words, &mut answer) {
             1 => Ok((after, answer)),
             given => Err(format!("the {name}'s call gives {given}")),
         }
@@ -117,28 +105,4 @@ impl Lent {
     pub fn makes_map(&self, after: &Lent, number: u64) -> bool {
         number == 0 || self.hart[PROTECTION] != after.hart[PROTECTION]
     }
-}
-
-/// The words of a ledger, none of them where none is lent.
-pub fn slice(ledger: &mut LentLedger) -> &mut [u64] {
-    ledger.as_mut().map_or(&mut [], |words| words)
-}
-
-/// A step by the model, with the ledger that is lent, if one is.
-pub fn model_step(
-    hart: &mut Hart,
-    map: &mut Map,
-    memory: Memory,
-    ledger: &mut LentLedger,
-    [number, a, b]: [u64; STEP_WORDS],
-) -> Answer {
-    let Some(words) = ledger else {
-        let next = Step::from_words(number, a, b).expect("a step there is");
-        return step(hart, map, memory, next);
-    };
-    let next = Metered::from_words(number, a, b).expect("a step there is");
-    let mut lent = Ledger::from_words(words).expect("in the form");
-    let answer = metered_step(hart, map, memory, &mut lent, next);
-    *words = lent.to_words();
-    answer
 }

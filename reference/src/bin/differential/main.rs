@@ -2,7 +2,7 @@
 //! difference.
 //!
 //! `differential [small] [loud] [only=N] [seed=N] [walks=N] [steps=N] [runs=N]
-//! [queries=N] [texts=N] [calls=N] [paging=N] [feeds=N] [ledgers=N]`: numbers are decimal; one walk is
+//! [queries=N] [texts=N] [calls=N] [paging=N] [feeds=N]`: numbers are decimal; one walk is
 //! every CSR number in every mode by every operation with all else that its access hangs on,
 //! every choice that step 7 can have to make, every shape of a NAPOT register, every grain
 //! under every A with bits set around it, every setting listed for the boundaries of a map,
@@ -12,9 +12,8 @@
 //! length of it and of a buffer, every kind of word for its form, every length of a short
 //! run and its answers, every kind of word for the grain of a hart that is made, every byte
 //! at every place of a record, every kind of word for its step and its arguments, every two
-//! places where a trace is cut, every length of what a feed is lent, every kind of word for
-//! the place of a reader, every step with every kind of tenant in a ledger, every account at
-//! the ends of its total, every step in a wait, and ledgers of every length. Should the product end the program, `loud` tells the case, and
+//! places where a trace is cut, every length of what a feed is lent, and every kind of word
+//! for the place of a reader. Should the product end the program, `loud` tells the case, and
 //! `only` what it was lent.
 //!
 //! The last line tells how many CSR steps of the walks were done, refused, or illegal
@@ -32,8 +31,7 @@
 //! their grain and of calls on texts, it tells how many were of each class; the comparison
 //! fails where a class has too few of them. So it does of the accesses by page tables,
 //! whose ends `diagnosis.rs` judges by itself, and of traces and the feeds that they come
-//! in, of which `account.rs` has an account of its own. Ledgers are held against the history
-//! of what they were lent to.
+//! in, of which `account.rs` has an account of its own.
 
 mod accesses;
 mod account;
@@ -53,13 +51,7 @@ mod feeding;
 mod feeds;
 mod grains;
 mod held;
-mod idle_chains;
 mod interrupts;
-mod ledger_feeds;
-mod ledger_lengths;
-mod ledger_runs;
-mod ledger_walks;
-mod ledgers;
 mod lengths;
 mod lent;
 mod making;
@@ -69,7 +61,6 @@ mod near_powers;
 mod orders;
 mod outcomes;
 mod paging;
-mod postings;
 mod queries;
 mod reading;
 mod reads;
@@ -134,11 +125,6 @@ fn compare_all(sizes: &Sizes) -> Result<String, Difference> {
     let lengths = lengths::walk(sizes)?;
     let made = making::walk(sizes)?;
     let fed = feed_walks::walk(sizes)?;
-    let ordered = ledger_walks::walk_order(sizes)?;
-    let totals = ledger_walks::walk_totals(sizes)?;
-    let restored = ledger_walks::walk_restores(sizes)?;
-    let chains = idle_chains::walk(sizes)?;
-    let ledger_lengths = ledger_lengths::walk(sizes)?;
     let step_telling = steps::random(sizes)?;
     let (run_steps, run_telling) = runs::random(sizes)?;
     let reads = queries::random(sizes)?;
@@ -150,9 +136,6 @@ fn compare_all(sizes: &Sizes) -> Result<String, Difference> {
     let outcomes = paging::random(sizes)?;
     let feeds = feeds::random(sizes)?;
     let wrong_feeds = feed_calls::wrong(sizes)?;
-    let metered = ledger_runs::random(sizes)?;
-    let metered_feeds = ledger_feeds::random(sizes)?;
-    let wrong_ledgers = ledger_lengths::wrong(sizes)?;
     if let Some(case) = sizes.only {
         return Ok(format!("case {case} alone of each stage"));
     }
@@ -161,12 +144,10 @@ fn compare_all(sizes: &Sizes) -> Result<String, Difference> {
          grain walks of {coarse}, boundary walks of {judged}, walks over narrow maps, each of {narrow}, \
          walks over page-table entries of {entries}, \
          {held} states with one word changed, {walked}, {forms} calls with no form, \
-         {lengths} runs of any lengths, {made} harts made or not, {fed}, {ordered} steps with each tenant, {totals} at the ends of each \
-         total, {restored} texts with each tenant, {chains} idle chains, {ledger_lengths} calls \
-         with any ledger, {} random steps with {step_telling}, \
+         {lengths} runs of any lengths, {made} harts made or not, {fed}, {} random steps with {step_telling}, \
          {} runs of {run_steps} steps with {run_telling}, \
          {} queries with {reads}, {readings}, {saves}, {conversions}, {misfits}, {} wrong calls, \
-         {} settings of page tables with {outcomes}, {feeds}, {wrong_feeds}, {} runs of {metered}, {metered_feeds}, {wrong_ledgers}",
-        sizes.steps, sizes.runs, sizes.queries, sizes.calls, sizes.paging, sizes.ledgers
+         {} settings of page tables with {outcomes}, {feeds}, {wrong_feeds}",
+        sizes.steps, sizes.runs, sizes.queries, sizes.calls, sizes.paging
     ))
 }

@@ -1,4 +1,4 @@
-//! Records judged apart from the model, by what requests [1] and [4] say of them.
+//! Records judged apart from the model, by what request [1] says of them.
 
 use reference::STEP_WORDS;
 
@@ -7,20 +7,19 @@ use reference::STEP_WORDS;
 pub enum Flaw {
     /// A line is not in its form.
     Line,
-    /// The number of its step is above 17, or above 18 with a ledger.
+    /// The number of its step is above 17.
     Step(u64),
     /// An argument that the step does not use is not 0.
     Argument,
 }
 
 /// The words of a record of 60 bytes, or what is wrong with it.
-pub fn judge(record: &[u8], with_ledger: bool) -> Result<[u64; STEP_WORDS], Flaw> {
+pub fn judge(record: &[u8]) -> Result<[u64; STEP_WORDS], Flaw> {
     let words = lines(record).ok_or(Flaw::Line)?;
     let used = match words[0] {
         0 | 7..=12 | 14 => 0,
         4 | 6 | 13 => 1,
         1..=3 | 5 | 15..=17 => 2,
-        18 if with_ledger => 2,
         number => return Err(Flaw::Step(number)),
     };
     let unused = &words[1 + used..];

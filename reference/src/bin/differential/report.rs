@@ -7,7 +7,6 @@ use std::sync::atomic::{AtomicBool, Ordering};
 use reference::random::Random;
 use reference::{ANSWER_WORDS, HART_WORDS, KEYS, MAP_WORDS, Map, Memory, NONE};
 
-use crate::lent::LentLedger;
 use crate::sizes::Sizes;
 
 /// What was called, and where the two programs differ; or what the comparison
@@ -107,20 +106,6 @@ pub fn memory_text(memory: Memory) -> String {
         let _ = writeln!(text, "  {address:016x}: {word:016x}");
     }
     text
-}
-
-/// The totals, the current tenant and whether the ledger is idle.
-pub fn ledger_text(ledger: LentLedger) -> String {
-    ledger.map_or(String::new(), |words| format!("ledger\n  {words:x?}\n"))
-}
-
-/// Where two ledgers differ.
-pub fn ledger_difference(expected: LentLedger, found: LentLedger) -> String {
-    if expected == found {
-        return String::new();
-    }
-    let [expected, found] = [expected, found].map(ledger_text);
-    format!("ledgers differ\nreference {expected}product {found}")
 }
 
 /// The owner of a range, or the entry that decided.

@@ -4,7 +4,7 @@ use reference::random::Random;
 use reference::{ANSWER_WORDS, STEP_WORDS, capi, generate, make};
 
 use crate::compare::{map_difference, result_difference};
-use crate::lent::{Lent, slice};
+use crate::lent::Lent;
 use crate::report::{Difference, Stage, show};
 use crate::sizes::Sizes;
 use crate::steps::random_step;
@@ -63,11 +63,9 @@ pub fn compare_run(
     show(|| tell(start, &steps, "run"));
     let mut left = start.clone();
     let mut given = vec![u64::MAX; answers.len()];
-    let Lent { hart, map, ledger, .. } = &mut left;
-    let call = capi::run(hart, map, start.memory(), slice(ledger), &steps, &mut given);
+    let call = capi::run(&mut left.hart, &mut left.map, start.memory(), &steps, &mut given);
     let same_map = map_difference(&found.map, &left.map, made_anew).is_none();
-    let same_rest = left.hart == found.hart && left.ledger == found.ledger;
-    let same = call == 1 && given == answers && same_rest && same_map;
+    let same = call == 1 && given == answers && left.hart == found.hart && same_map;
     if same { Ok(()) } else { Err(tell_run(start, &steps, &answers, &given, call)) }
 }
 
@@ -83,7 +81,7 @@ fn tell_run(start: &Lent, steps: &[u64], answers: &[u64], given: &[u64], call: u
     let place = (0..answers.len()).find(|&place| answers[place] != given[place]);
     let text = match place {
         Some(place) => format!("the answer of step {} of the run differs", place / ANSWER_WORDS),
-        None => "the run leaves another state, ledger or map than its steps one by one".into(),
+        None => "the run leaves another state or map than its steps one by one".into(),
     };
     tell(start, steps, &format!("the run's call gives {call}; {text}"))
 }

@@ -10,7 +10,6 @@ pub struct Sizes {
     pub calls: u64,
     pub paging: u64,
     pub feeds: u64,
-    pub ledgers: u64,
     /// Tell every case before it is done.
     pub loud: bool,
     /// Do this one case of each stage, and tell what is lent to each call.
@@ -27,7 +26,6 @@ const FULL: Sizes = Sizes {
     calls: 100_000,
     paging: 100_000,
     feeds: 600_000,
-    ledgers: 60_000,
     loud: false,
     only: None,
 };
@@ -42,7 +40,6 @@ const SMALL: Sizes = Sizes {
     calls: 5_000,
     paging: 5_000,
     feeds: 30_000,
-    ledgers: 6_000,
     ..FULL
 };
 
@@ -76,7 +73,6 @@ impl Sizes {
             "calls" => &mut self.calls,
             "paging" => &mut self.paging,
             "feeds" => &mut self.feeds,
-            "ledgers" => &mut self.ledgers,
             "only" => self.only.insert(0),
             _ => return Err(format!("{name}: no such size")),
         };

@@ -44,7 +44,6 @@ struct Given {
     text: Vec<u8>,
     hart: Vec<u64>,
     map: Vec<u64>,
-    ledger: Vec<u64>,
     buffer: Vec<u8>,
 }
 
@@ -52,9 +51,8 @@ impl Given {
     /// With a text and a state that mostly fit, and any form.
     fn random(random: &mut Random, call: Call, form: u64) -> Given {
         let Lent { hart, map, .. } = Lent::random(random);
-        let (hart, map, ledger) = (hart.to_vec(), map.to_vec(), Vec::new());
-        let (text, buffer) = (generate::text(random).bytes, buffer(random));
-        Given { call, form, text, hart, map, ledger, buffer }
+        let (hart, map) = (hart.to_vec(), map.to_vec());
+        Given { call, form, text: generate::text(random).bytes, hart, map, buffer: buffer(random) }
     }
 
     /// Gives the hart or the map another length. A save is lent no map.
@@ -70,10 +68,10 @@ impl Given {
     }
 
     fn call(&mut self) -> u64 {
-        let Given { call, form, text, hart, map, ledger, buffer } = self;
+        let Given { call, form, text, hart, map, buffer } = self;
         match call {
             Call::Save => capi::save(*form, hart, buffer),
-            Call::Restore => capi::restore(*form, text, hart, map, ledger),
+            Call::Restore => capi::restore(*form, text, hart, map),
             Call::Convert => capi::convert(*form, text, buffer),
         }
     }

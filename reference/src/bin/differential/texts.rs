@@ -2,13 +2,12 @@
 
 use reference::random::Random;
 use reference::{
-    Form, HART_WORDS, Hart, Ledger, MAP_WORDS, Refusal, capi, convert, generate, metered_restore,
-    restore, save,
+    Form, HART_WORDS, Hart, MAP_WORDS, Refusal, capi, convert, generate, restore, save,
 };
 
 use crate::compare::map_difference;
-use crate::lent::{Lent, slice};
-use crate::report::{ledger_difference, ledger_text, show, state_difference, state_text};
+use crate::lent::Lent;
+use crate::report::{show, state_difference, state_text};
 
 /// 0 or the number of the refusal, and what the product left in its buffer.
 pub struct Written {
@@ -45,19 +44,18 @@ pub fn filled(random: &mut Random, length: usize) -> Vec<u8> {
 
 /// Gives 0 or the number of the refusal, and what the product leaves.
 pub fn compare_restore(form: Form, text: &[u8], lent: &Lent) -> Result<(u64, Lent), String> {
-    let told = || {
-        let ledger = ledger_text(lent.ledger);
-        format!("{ledger}reading by {form:?} form the text\n{}", text.escape_ascii())
-    };
+    let told = || format!("reading by {form:?} form the text\n{}", text.escape_ascii());
     show(told);
     restore_difference(form, text, lent).map_err(|difference| format!("{}\n{difference}", told()))
 }
 
 fn restore_difference(form: Form, text: &[u8], lent: &Lent) -> Result<(u64, Lent), String> {
     let mut found = lent.clone();
-    let Lent { hart, map, ledger, .. } = &mut found;
-    let call = capi::restore(form.number(), text, hart, map, slice(ledger));
-    let (number, expected) = restored(form, text, lent);
+    let call = capi::restore(form.number(), text, &mut found.hart, &mut found.map);
+    let (number, expected) = match restore(form, text) {
+        Ok((hart, map)) => (0, lent.left(&hart, &map)),
+        Err(refusal) => (refusal.number(), lent.clone()),
+    };
     if call != number {
         return Err(format!("reference gives {number}, product {call}"));
     }
@@ -65,27 +63,7 @@ fn restore_difference(form: Form, text: &[u8], lent: &Lent) -> Result<(u64, Lent
         let difference = state_difference(&expected.hart, &found.hart);
         return Err(format!("both give {call}; states differ\n{difference}"));
     }
-    let ledgers = ledger_difference(expected.ledger, found.ledger);
-    if !ledgers.is_empty() {
-        return Err(format!("both give {call}; {ledgers}"));
-    }
     map_difference(&expected.map, &found.map, number == 0).map_or(Ok((number, found)), Err)
-}
-
-/// 0 or the number of the refusal, and what the model leaves.
-fn restored(form: Form, text: &[u8], lent: &Lent) -> (u64, Lent) {
-    let mut ledger = lent.ledger.map(|words| Ledger::from_words(&words).expect("in the form"));
-    let read = match &mut ledger {
-        None => restore(form, text),
-        Some(ledger) => metered_restore(form, text, ledger),
-    };
-    match read {
-        Ok((hart, map)) => {
-            let ledger = ledger.map(|ledger| ledger.to_words());
-            (0, Lent { ledger, ..lent.left(&hart, &map) })
-        }
-        Err(refusal) => (refusal.number(), lent.clone()),
-    }
 }
 
 pub fn compare_save(

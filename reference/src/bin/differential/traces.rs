@@ -6,12 +6,12 @@ use reference::csr::number::{PMPADDR0, PMPCFG0, PMPCFG2};
 use reference::generate::Paging;
 use reference::random::Random;
 use reference::{
-    HART_WORDS, MAP_WORDS, MOST_CARRIED, Metered, RECORD_LENGTH, STEP_WORDS, generate, write_record,
+    HART_WORDS, MAP_WORDS, MOST_CARRIED, RECORD_LENGTH, STEP_WORDS, Step, generate, write_record,
 };
 
 use crate::feeding::Kept;
-use crate::ledgers::next_step;
-use crate::lent::{Lent, LentLedger};
+use crate::lent::Lent;
+use crate::steps::random_step;
 
 /// The base of a memory and its words.
 pub type Memory = (u64, Rc<[u64]>);
@@ -29,9 +29,9 @@ const CONFIGURATION: usize = 23;
 /// Of the traces that are not short, one in so many is long.
 const LONG: u64 = 128;
 
-pub fn trace(random: &mut Random, ledger: LentLedger) -> Trace {
+pub fn trace(random: &mut Random) -> Trace {
     let paging = random.once_in(3).then(|| generate::paging(random));
-    let lent = Lent { ledger, ..start(random, paging.as_ref()) };
+    let lent = start(random, paging.as_ref());
     let memories = memories(random, &lent);
     let records = match random.below(16) {
         0 if random.once_in(LONG) => 1000 + random.index(2000),
@@ -44,7 +44,7 @@ pub fn trace(random: &mut Random, ledger: LentLedger) -> Trace {
         damage(random, &mut bytes);
     }
     if random.once_in(2) {
-        let more = write_record(next_step(random, &lent));
+        let more = write_record(random_step(random, &lent));
         bytes.extend(&more[..random.index(RECORD_LENGTH)]);
     }
     let (carried, place, begun) = reader(random, &bytes);
@@ -109,7 +109,7 @@ fn records_for(
                 back = Some(again);
                 there
             }
-            _ => next_step(random, &lent),
+            _ => random_step(random, &lent),
         };
         let words = used(words);
         lent = lent.reference_step(words).0;
@@ -128,7 +128,7 @@ fn there_and_back(random: &mut Random, lent: &Lent) -> [[u64; STEP_WORDS]; 2] {
 
 /// The same step with 0 in the arguments that it does not use.
 fn used([number, a, b]: [u64; STEP_WORDS]) -> [u64; STEP_WORDS] {
-    Metered::from_words(number, a, b).expect("a step there is").to_words()
+    Step::from_words(number, a, b).expect("a step there is").to_words()
 }
 
 /// Bytes to put anywhere: digits and their neighbours, and what ends lines.

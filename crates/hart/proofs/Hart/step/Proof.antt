@@ -3,7 +3,7 @@ use Rattle.paging.specs.Memory.{memory_at}
 use Rattle.state.specs.Hold.{can_hold}
 use Rattle.state.proofs.SliceLaws.{all-loaded}
 use Rattle.hart.proofs.Numbered.{numbered}
-use Rattle.hart.proofs.StepLaws.{map-stays, map-anew}
+use Rattle.hart.proofs.StepLaws.{map-stays, map_anew}
 use borrow.Author.Rules.{rules}
 use Rattle.hart.proofs.Hart.step.Statement.{statement}
 use Rattle.hart.proofs.Hart.step.Tie as tie
@@ -33,7 +33,7 @@ returns-2 c =
     let w = k.before.before in
     let a = w.before.before.before.args in
     numbered
-    (map-anew a.self a.map (memory_at a.memory.now a.base) a.step (judged k) w.to-words.result w.to-words.ensures.1 g.step.ensures.0 (f.of_words.ensures ∙ g.step.ensures.1) i.if1.false c.map-for.ensures)
+    (map_anew a.self a.map (memory_at a.memory.now a.base) a.step (judged k) w.to-words.result w.to-words.ensures.1 g.step.ensures.0 (f.of_words.ensures ∙ g.step.ensures.1) i.if1.false c.map-for.ensures)
 
 pub step_spec : {M : Type 1} → statement M
 step_spec =

@@ -13,7 +13,7 @@ use Rattle.map.specs.Lookup.{ranges_in}
 use Rattle.map.specs.Ranges.{range}
 use Rattle.map.specs.MapWords.{ranges_of_words, map_of_words}
 use Rattle.map.specs.Reading.{read_range, read_ranges}
-use Rattle.map.proofs.MapWords.{ranges-from, ranges-room, ranges-next}
+use Rattle.map.proofs.MapWords.{ranges-from, ranges-room, ranges_next}
 use Rattle.map.proofs.ReadingLaws.{read_behind, rest-unread}
 use Rattle.map.proofs.queries.read_words.Statement.{statement}
 use Rattle.map.proofs.queries.read_words.Tie as tie
@@ -53,7 +53,7 @@ goes_on c =
     let l = c.before.loop in
     let a = c.before.before.before.before.before.args in
     l.invariant.1
-    ∙ ap (fold (read_range a.address) l.reading) (ranges-next a.map.now l.left l.at c.loop-test.true (omega arith))
+    ∙ ap (fold (read_range a.address) l.reading) (ranges_next a.map.now l.left l.at c.loop-test.true (omega arith))
     ∙ fold_cons (read_range a.address) l.reading (here c) (behind c)
 
 loop-again : tie.Need-loop-preserved invariant-loop decreases-loop

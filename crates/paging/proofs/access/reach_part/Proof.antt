@@ -12,7 +12,7 @@ use Rattle.paging.specs.declared.Reached.TheVariants.{Fault}
 use Rattle.paging.specs.Memory.{memory_at, word_at}
 use Rattle.paging.specs.Walk.{read_by, word_says, onward, walk_from}
 use Rattle.paging.specs.Access.{by_rule, arrived, part_reached}
-use Rattle.paging.proofs.AccessLaws.{stage, stage_physical, stage_walk, stage_stray, denied, check_ends, check-reads, check_denies, stage_on, stage_out}
+use Rattle.paging.proofs.AccessLaws.{stage, stage_physical, stage_walk, stage_stray, denied, check_ends, check_reads, check_denies, stage_on, stage_out}
 use Rattle.paging.proofs.access.reach_part.Statement.{statement}
 use Rattle.paging.proofs.access.reach_part.Tie as tie
 
@@ -46,7 +46,7 @@ reads : (c : tie.After-byte-rule invariant-loop decreases-loop) (d : Decision) â
 reads c d e n =
     let a = c.before.before.before.before.before.before.before.before.args in
     let l = c.before.before.loop in
-    check-reads a.pmp (memory_at a.memory.now a.base) a.context a.address a.size l.levels l.place c.before.next-check.result
+    check_reads a.pmp (memory_at a.memory.now a.base) a.context a.address a.size l.levels l.place c.before.next-check.result
     c.byte-rule.result d _ l.invariant.1 c.before.next-check.ensures c.byte-rule.ensures e (l.levels - 1) _ (omega arith) refl
 
 -- and so is the fault where the check is not granted

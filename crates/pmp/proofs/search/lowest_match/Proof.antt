@@ -12,7 +12,7 @@ use Rattle.pmp.specs.declared.Span.{Span}
 use Rattle.pmp.specs.Search.{any_byte, lowest}
 use Rattle.pmp.specs.Entry.{span_read, field_a, address_before, entry_span, contains, matches}
 use Rattle.pmp.specs.Rule.{lowest_match}
-use Rattle.pmp.proofs.SearchLaws.{any_start, any_next, any_found, any_end, lowest-next, lowest_found, lowest_end}
+use Rattle.pmp.proofs.SearchLaws.{any_start, any_next, any_found, any_end, lowest_next, lowest_found, lowest_end}
 use Rattle.pmp.proofs.EntryLaws.{overlaps, contains-none}
 use Rattle.pmp.proofs.search.lowest_match.Statement.{statement}
 use Rattle.pmp.proofs.search.lowest_match.Tie as tie
@@ -86,7 +86,7 @@ search-again c =
     c.if2.branch in (
       omega arith,
       rw add-one,
-      e.invariant.2 ∙ lowest-next (some spans a.address a.size) 16 e.entry (omega arith) missed,
+      e.invariant.2 ∙ lowest_next (some spans a.address a.size) 16 e.entry (omega arith) missed,
     )
 
 returns : tie.Need-returns invariant-loop decreases-loop invariant-search decreases-search

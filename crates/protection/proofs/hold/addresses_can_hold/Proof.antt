@@ -5,7 +5,7 @@ use native.Mathlib.Omega.{arith}
 use lib.ListN.{length, get_or, drop}
 use borrow.Author.Rules.{rules}
 use Rattle.bits.specs.Lists.{all}
-use Rattle.bits.proofs.ListLaws.{all-next, all_end}
+use Rattle.bits.proofs.ListLaws.{all_next, all_end}
 use Rattle.protection.specs.Hold.{address_holdable}
 use Rattle.protection.proofs.HeldWords.{or_below}
 use Rattle.protection.proofs.hold.addresses_can_hold.Statement.{statement}
@@ -23,7 +23,7 @@ loop-again c =
     let a = c.before.before.before.args.addrs.now in (
       omega arith,
       ap (λ (b : Bool). b && all address_holdable (drop (l.i + 1) a)) (or_below 54 l.any (get_or a l.i 0))
-          ∙ all-next address_holdable a l.i (address_holdable l.any) (search rules) l.invariant.1,
+          ∙ all_next address_holdable a l.i (address_holdable l.any) (search rules) l.invariant.1,
     )
 
 returns : tie.Need-returns invariant-loop decreases-loop

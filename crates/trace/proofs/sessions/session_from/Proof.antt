@@ -4,15 +4,8 @@ use Rattle.trace.proofs.sessions.session_from.Tie as tie
 
 returns : tie.Need-returns
 returns c =
-    let a = c.before.before.args in
-    λ j. record {
-      reader = c.before.new.ensures j;
-      hart = a.hart;
-      map = a.map;
-      ledger = c.new2.ensures j;
-      more = eqb a.refusal 0;
-      refusal = a.refusal;
-    }
+    let a = c.before.args in
+    λ j. record { reader = c.new.ensures j; hart = a.hart; map = a.map; more = eqb a.refusal 0; refusal = a.refusal }
 
 pub session-from-spec : {M : Type 1} → statement M
-session-from-spec = tie.close (tie.spec (λ c κs. search rules) (λ c κs. search rules) returns)
+session-from-spec = tie.close (tie.spec (λ c κs. search rules) returns)

@@ -1,4 +1,0 @@
--- The definitions that the contracts cite.
-pub mod Rules
-pub mod Words
-pub mod Given

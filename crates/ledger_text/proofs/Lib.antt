@@ -1,3 +1,0 @@
--- The laws that the proofs and the crates above cite.
-pub mod Form
-pub mod Laws
