@@ -1,4 +1,6 @@
 // convert TO: converts the saved text on standard input, which is in the other form, to the form TO.
+#![tactic(auto)]
+
 use libc::{STDERR_FILENO, STDIN_FILENO, STDOUT_FILENO};
 use text::Form;
 

@@ -1,5 +1,7 @@
 // replay [START] [MEMORY]: replays the trace on standard input from the saved text, of either form, in the file START, or from reset, with the words in the
 // file MEMORY for page tables, or none.
+#![tactic(auto)]
+
 use libc::{STDERR_FILENO, STDIN_FILENO, STDOUT_FILENO};
 
 fn usage(fd: i32) {

@@ -1,5 +1,7 @@
 // Replays a trace from a descriptor to standard output, in constant memory. What goes on from piece to piece is said in `trace`: here is the
 // reading and the writing alone.
+#![tactic(auto)]
+
 ghost use Rattle.std.specs.Prelude.{◌≡◌};
 ghost use Rattle.paging.specs.Memory.{memory_at};
 ghost use Rattle.trace.specs.Sessions.{reset_session, text_session};
@@ -10,7 +12,7 @@ use libc::STDERR_FILENO;
 use trace::Session;
 
 // The session that a stream has left, and whether reading or writing failed.
-#[derive(Drop)]
+#[derive(Clone, Copy)]
 pub struct Stream {
     pub session: Session,
     pub failed: bool,

@@ -1,4 +1,6 @@
 // Replays stored traces: for each three arguments, START, MEMORY and TRACE, the name of the trace and what replay writes. `-` is no START, or no MEMORY.
+#![tactic(auto)]
+
 use libc::STDOUT_FILENO;
 
 fn replay(start: &[u8], memory: &[u8], trace: &[u8]) {

@@ -1,19 +1,21 @@
 // A scrap of a trace together with the place of the next record in it. `record_at`, which parses the record there, is covered; the functions over a `Scrap` are
 // thin, and their proofs go by hand.
+#![tactic(auto)]
+
 ghost use Rattle.std.specs.Prelude.{◌≡◌};
 ghost use Rattle.scrap.specs.Places.{numbers_behind, record_at};
 
 use records::Record;
 
 // The bytes that were lent, and the place of the next record in them.
-#[derive(Drop)]
+#[derive(Clone, Copy)]
 pub struct Scrap<'a> {
     pub bytes: &'a [u8],
     pub at: usize,
 }
 
 // The numbers of a record, if they name a step, and the place behind it.
-#[derive(Drop)]
+#[derive(Clone, Copy)]
 pub struct Numbers {
     pub named: bool,
     pub step: u64,

@@ -1,4 +1,6 @@
 // Prints the maps of two hand-checked settings, W8 and W9, and the answers to queries on the first.
+#![tactic(auto)]
+
 use libc::STDOUT_FILENO;
 
 fn show_owner(owner: u64) {

@@ -1,6 +1,8 @@
 // Steps a hart through a mix of steps, over and over, for the benchmark: `step_speed MIX COUNT`. Mix 1 has CSR steps, 2 traps and returns,
 // 3 accesses, 4 writes to protection registers, 5 CSR steps on present and absent numbers, 6 translated accesses; any other number stands for all six, one
 // after the other. A line for each mix gives a checksum of the answers and of the hart and map left.
+#![tactic(auto)]
+
 mod checksum;
 mod mixes;
 mod translated;

@@ -1,10 +1,12 @@
 // Reading and writing whole buffers, in as many calls as the system takes.
+#![tactic(auto)]
+
 ghost use Rattle.streams.specs.Transfers.{Filled, Written};
 
 use libc::STDOUT_FILENO;
 
 // The bytes that were moved, and whether a call failed.
-#[derive(Drop)]
+#[derive(Clone, Copy)]
 pub struct Transfer {
     pub count: usize,
     pub failed: bool,
