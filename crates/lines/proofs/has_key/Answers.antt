@@ -13,13 +13,13 @@ pub returns-then-not-has_room : goal.returns-then-not-has_room
 returns-then-not-has_room c =
     let h = c.has_room in
     let a = c.args in
-    sym (key_missing a.text.now a.place a.key.now (sym h.ensures ∙ not-true h.result c.if-not-has_room.true))
+    sym (key_missing a.text.now a.place a.key.now (sym h.ensures ∙ c.if-not-has_room.true))
 
 pub loop-i-init : goal.loop-i-init
 loop-i-init c =
     let h = c.has_room in
     let a = c.args in
-    let e = sym h.ensures ∙ not-false h.result c.if-not-has_room.false in
+    let e = sym h.ensures ∙ c.if-not-has_room.false in
     (leb-true (a.place + length a.key.now) (length a.text.now) e, omega arith, key_start a.text.now a.place a.key.now e)
 
 pub loop-i-preserved : goal.loop-i-preserved

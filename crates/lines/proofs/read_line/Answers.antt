@@ -12,14 +12,14 @@ pub returns-then-not-has_room : goal.returns-then-not-has_room
 returns-then-not-has_room c =
     let h = c.has_room in
     let a = c.args in
-    line_missing a.text.now a.key.now a.place (sym h.ensures ∙ not-true h.result c.if-not-has_room.true)
+    line_missing a.text.now a.key.now a.place (sym h.ensures ∙ c.if-not-has_room.true)
 
 pub overflow_add-place : goal.overflow_add-place
 overflow_add-place c =
     let h = c.has_room in
     let a = c.args in
-    omega (arith, leb-true (a.place + length a.key.now) (length a.text.now) (sym h.ensures ∙ not-false h.result c.if-not-has_room.false))
+    omega (arith, leb-true (a.place + length a.key.now) (length a.text.now) (sym h.ensures ∙ c.if-not-has_room.false))
 
 pub returns : goal.returns
 unfolding line_at
-returns c = rw (c.has_key_lem.ensures, c.read_word-digits.ensures)
+returns c = rw (c.has_key-keyed.ensures, c.read_word-digits.ensures)

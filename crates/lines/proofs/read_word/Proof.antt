@@ -24,14 +24,14 @@ returns : tie.Need-returns-then-not-has_room invariant-loop decreases-loop
 returns c =
     let h = c.before.has_room in
     let a = c.before.before.before.args in
-    word_missing a.text.now a.place (sym h.ensures ∙ not-true h.result c.if-not-has_room.true)
+    word_missing a.text.now a.place (sym h.ensures ∙ c.if-not-has_room.true)
 
 loop-holds : tie.Need-loop-j-init invariant-loop decreases-loop
 loop-holds c =
     let h = c.before.has_room in
     let a = c.before.before.before.args in
     let r = read-start a.text.now a.place in
-    (leb-true (a.place + 17) (length a.text.now) (sym h.ensures ∙ not-false h.result c.if-not-has_room.false), omega arith, omega arith, r.0, r.1)
+    (leb-true (a.place + 17) (length a.text.now) (sym h.ensures ∙ c.if-not-has_room.false), omega arith, omega arith, r.0, r.1)
 
 -- what the digit adds to the number
 fits : (c : tie.After-digit_value-value invariant-loop decreases-loop) →

@@ -13,10 +13,10 @@ returns : tie.Need-returns-then-not-has_room
 returns c =
     let a = c.before.before.before.args in
     let h = c.before.has_room in
-    word_left a.text.now a.place a.word (sym h.ensures ∙ not-true h.result c.if-not-has_room.true)
+    word_left a.text.now a.place a.word (sym h.ensures ∙ c.if-not-has_room.true)
 
 room : (c : tie.Else-not-has_room) → let a = c.before.before.before.args in has_room (length a.text.now) a.place 16 ≡ true
-room c = let h = c.before.has_room in sym h.ensures ∙ not-false h.result c.if-not-has_room.false
+room c = let h = c.before.has_room in sym h.ensures ∙ c.if-not-has_room.false
 
 write-digits-requires : tie.Need-write_digits-requires
 write-digits-requires c κs =
