@@ -28,7 +28,7 @@ returns-2 c =
     let d = c.before.before in
     let e = d.before.before in
     let a = e.before.before.before.args in
-    word_written a.text.now d.write_digits.new.1.0 a.place a.word (room e) d.write_digits.ensures
+    word_written a.text.now d.write_digits.new.text a.place a.word (room e) d.write_digits.ensures
 
 pub write_word_spec : {M : Type 1} → statement M
 write_word_spec = tie.close (tie.spec (λ c κs. search rules) returns write-digits-requires (λ c. search rules) returns-2)
