@@ -5,14 +5,12 @@ use Rattle.records.proofs.record_step.Goals as goal
 pub returns-then-unused_are_zero : goal.returns-then-unused_are_zero
 unfolding record_step
 returns-then-unused_are_zero c =
-    let u = c in
-    rw (u.«record».given.1, ← u.unused_are_zero.ensures, c.if-unused_are_zero.true) c.decode.ensures
+    rw (c.in-Words.is, ← c.unused_are_zero.ensures, c.if-unused_are_zero.true) c.decode.ensures
 
 pub returns-else-unused_are_zero : goal.returns-else-unused_are_zero
 unfolding record_step
 returns-else-unused_are_zero c =
-    let u = c in
-    rw (u.«record».given.1, ← u.unused_are_zero.ensures, c.if-unused_are_zero.false)
+    rw (c.in-Words.is, ← c.unused_are_zero.ensures, c.if-unused_are_zero.false)
 
 pub returns-in-Broken : goal.returns-in-Broken
 unfolding record_step
