@@ -5,6 +5,7 @@ use native.Mathlib.Omega.{arith}
 use borrow.Author.Tests.{ne_eqb, le-leb, lt-leb}
 use borrow.Author.Rules.{rules}
 use Rattle.protection.specs.Write.{configs_written, pmp_written}
+use Rattle.std.proofs.lemmas.Grind.{common_steps}
 use Rattle.protection.proofs.write.write_register.Goals as goal
 
 by-grain : (g at value : ℕ) (cfgs : List ℕ) → g ≡ 0 → {new : List ℕ} → new ≡ configs_written 0 8 at value cfgs → new ≡ configs_written g 8 at value cfgs
@@ -32,25 +33,15 @@ pub returns-else-grain-eq0-2 : goal.returns-else-grain-eq0-2
 unfolding pmp_written
 returns-else-grain-eq0-2 c = rw (c.in-930.is, c.configs_written-w-in-930.ensures)
 
+
 pub returns-in-944-to-959 : goal.returns-in-944-to-959
 unfolding pmp_written
-returns-in-944-to-959 c =
-    let t = c in
-    let m = t in
-    let r = m.in_default-1.in_default-own.rest in
-    let n = m.args.number in
-    rw (ne_eqb n 0x3A0 r.0.1, ne_eqb n 0x3A2 r.1, le-leb 0x3B0 n t.if-number-lt944.false, le-leb n 0x3BF (omega arith), c.address_written.ensures)
+returns-in-944-to-959 c = grind (arith, common_steps)
 
 pub returns-in_default : goal.returns-in_default
 unfolding pmp_written
-returns-in_default c =
-    let r = c.in_default-1.in_default-own.rest in
-    rw (ne_eqb _ _ r.0.1, ne_eqb _ _ r.1, lt-leb _ _ c.if-number-lt944.true)
+returns-in_default c = grind (arith, common_steps)
 
 pub returns-in_default-2 : goal.returns-in_default-2
 unfolding pmp_written
-returns-in_default-2 c =
-    let m = c in
-    let r = m.in_default-1.in_default-own.rest in
-    let n = m.args.number in
-    rw (ne_eqb n 0x3A0 r.0.1, ne_eqb n 0x3A2 r.1, le-leb 0x3B0 n c.if-number-lt944.false, lt-leb n 0x3BF (omega arith))
+returns-in_default-2 c = grind (arith, common_steps)
