@@ -2,8 +2,7 @@
 use Rattle.std.proofs.Common.{◌≡◌, ℕ, ◌<◌, ◌≤◌, min, Bool, true, false, cond, ◌&&◌, ltb, refl, arith, rules, ltb-false, ltb-true}
 use Rattle.paging.specs.Access.{room}
 use Rattle.bits.proofs.Conjunction.{contradiction}
-use Rattle.paging.proofs.access.first_part.Statement.{statement}
-use Rattle.paging.proofs.access.first_part.Tie as tie
+use Rattle.paging.proofs.access.first_part.Goals as goal
 
 crossing : (t : Bool) (r size : ℕ) → (t && ltb r size) ≡ true → (r ≡ cond t (min size r) size) × (r ≤ size)
 crossing true r size e = let h : r < size = ltb-true r size e in (omega arith, omega arith)
@@ -13,16 +12,16 @@ whole : (t : Bool) (r size : ℕ) → (t && ltb r size) ≡ false → size ≡ c
 whole true r size e = let h : size ≤ r = ltb-false r size e in omega arith
 whole false r size e = refl
 
-returns : tie.Need-returns
-returns c =
-    let a = c.before.before.args in
-    rw (← c.before.is-translated.ensures) (crossing c.before.is-translated.result (room a.address) a.size c.if1.true)
+pub returns-then-is_translated-room : goal.returns-then-is_translated-room
+returns-then-is_translated-room c =
+    let a = c.args in
+    let both = crossing c.is_translated.result (room a.address) a.size c.if-is_translated-room.true in
+    record { value = rw (← c.is_translated.ensures) both.0; upper_bound = both.1 }
 
-returns-2 : tie.Need-returns-2
-returns-2 c =
-    let a = c.before.before.args in
-    rw (← c.before.is-translated.ensures)
-    (whole c.before.is-translated.result (room a.address) a.size c.if1.false, omega arith)
-
-pub first-part-spec : {M : Type 1} → statement M
-first-part-spec = tie.close (tie.spec (λ c. search rules) (λ c κs. search rules) returns returns-2)
+pub returns-else-is_translated-room : goal.returns-else-is_translated-room
+returns-else-is_translated-room c =
+    let a = c.args in
+    record {
+      value = rw (← c.is_translated.ensures) (whole c.is_translated.result (room a.address) a.size c.if-is_translated-room.false);
+      upper_bound = omega arith;
+    }
