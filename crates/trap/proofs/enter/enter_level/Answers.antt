@@ -1,5 +1,4 @@
 use Rattle.trap.specs.Enter.{entered}
-use Rattle.std.proofs.Common.{rules}
 use Rattle.trap.proofs.enter.enter_level.Goals as goal
 
 pub returns : goal.returns

@@ -1,4 +1,4 @@
-use Rattle.std.proofs.Common.{arith, rules}
+use Rattle.std.proofs.Common.{arith}
 use lib.Bits.{and_le_r}
 use Rattle.trap.specs.Enter.{entered_status}
 use Rattle.trap.proofs.enter.entered_status.Goals as goal

@@ -1,5 +1,4 @@
 -- `trap::enter::raise` meets its contract. Assumes nothing.
-use Rattle.std.proofs.Common.{rules}
 use Rattle.trap.proofs.enter.raise.Goals as goal
 
 pub returns : goal.returns

@@ -1,5 +1,4 @@
 use Rattle.trap.specs.Enter.{raised_by}
-use Rattle.std.proofs.Common.{rules}
 use Rattle.trap.proofs.enter.raise_by.Goals as goal
 
 pub returns : goal.returns

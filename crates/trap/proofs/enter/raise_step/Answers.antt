@@ -1,4 +1,4 @@
-use Rattle.std.proofs.Common.{rules, le-leb}
+use Rattle.std.proofs.Common.{le-leb}
 use borrow.Author.Tests.{lt-leb}
 use Rattle.trap.specs.Enter.{raise_step}
 use Rattle.trap.proofs.enter.raise_step.Goals as goal

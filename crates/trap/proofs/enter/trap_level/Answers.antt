@@ -1,4 +1,3 @@
-use Rattle.std.proofs.Common.{rules}
 use Rattle.trap.proofs.enter.trap_level.Goals as goal
 
 pub returns-in-Exception : goal.returns-in-Exception

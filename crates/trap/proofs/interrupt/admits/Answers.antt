@@ -1,4 +1,3 @@
-use Rattle.std.proofs.Common.{rules}
 use Rattle.trap.proofs.interrupt.admits.Goals as goal
 
 pub returns-in-Machine : goal.returns-in-Machine

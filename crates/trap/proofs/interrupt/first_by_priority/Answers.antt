@@ -1,6 +1,6 @@
-use Rattle.std.proofs.Common.{◌≡◌, ◌-◌, ◌≤◌, drop, sym, ◌∙◌, rules}
+use Rattle.std.proofs.Common.{sym, ◌∙◌, rules}
 use Rattle.bits.specs.Mask.{test_bit}
-use Rattle.trap.specs.Interrupt.{first_of, priority}
+use Rattle.trap.specs.Interrupt.{priority}
 use Rattle.trap.proofs.First.{first_found, first_next, first-none}
 use Rattle.trap.proofs.interrupt.first_by_priority.Goals as goal
 

@@ -1,4 +1,4 @@
-use Rattle.std.proofs.Common.{rules, eq-eqb, ne_eqb}
+use Rattle.std.proofs.Common.{eq-eqb, ne_eqb}
 use Rattle.trap.specs.Interrupt.{lines_step}
 use Rattle.trap.proofs.interrupt.lines_step.Goals as goal
 

@@ -1,10 +1,10 @@
-use Rattle.std.proofs.Common.{sym, ◌∙◌, rules}
+use Rattle.std.proofs.Common.{sym, ◌∙◌}
 use Rattle.trap.specs.Interrupt.{interrupt_taken}
 use Rattle.trap.proofs.First.{chosen}
 use Rattle.trap.proofs.interrupt.take_interrupt.Goals as goal
 
 pub enter_level-requires : goal.enter_level-requires
-enter_level-requires c = chosen c.args.r c.choice.given.0.0 (sym c.machine_bound_first-choice.ensures ∙ c.choice.given.1)
+enter_level-requires c = chosen c.args.r c.in-Take.number (sym c.machine_bound_first-choice.ensures ∙ c.in-Take.is)
 
 pub returns-in-Take : goal.returns-in-Take
 unfolding interrupt_taken

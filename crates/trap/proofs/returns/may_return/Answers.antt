@@ -1,4 +1,3 @@
-use Rattle.std.proofs.Common.{rules}
 use Rattle.trap.proofs.returns.may_return.Goals as goal
 
 pub returns-in-Supervisor : goal.returns-in-Supervisor

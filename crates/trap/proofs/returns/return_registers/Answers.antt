@@ -1,5 +1,4 @@
 use Rattle.trap.specs.Return.{returned}
-use Rattle.std.proofs.Common.{rules}
 use Rattle.trap.proofs.returns.return_registers.Goals as goal
 
 pub returns : goal.returns

@@ -1,5 +1,4 @@
 use Rattle.trap.specs.Return.{returned_status}
-use Rattle.std.proofs.Common.{rules}
 use Rattle.trap.proofs.returns.returned_status.Goals as goal
 
 pub returns-in-Supervisor : goal.returns-in-Supervisor

@@ -1,4 +1,4 @@
-use Rattle.std.proofs.Common.{sym, ◌∙◌, rules}
+use Rattle.std.proofs.Common.{sym, ◌∙◌}
 use Rattle.trap.specs.Return.{waited}
 use Rattle.trap.proofs.returns.wait.Goals as goal
 

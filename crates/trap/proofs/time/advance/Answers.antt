@@ -1,4 +1,4 @@
-use Rattle.std.proofs.Common.{rules, eq-eqb, ne_eqb}
+use Rattle.std.proofs.Common.{eq-eqb, ne_eqb}
 use Rattle.trap.specs.Time.{advanced}
 use Rattle.trap.proofs.time.advance.Goals as goal
 

@@ -1,5 +1,4 @@
 use Rattle.trap.specs.Time.{elapsed}
-use Rattle.std.proofs.Common.{rules}
 use Rattle.trap.proofs.time.elapse.Goals as goal
 
 pub returns : goal.returns
