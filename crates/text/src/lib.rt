@@ -116,7 +116,7 @@ pub fn write(form: Form, words: &[u64], buffer: &mut [u8]) -> bool
     let head = head_length(form);
     let start = HEAD - head;
     let end = start + size;
-    bytes::copy(&ZEROS[start..end], buffer);
+    buffer[..size].copy_from_slice(&ZEROS[start..end]);
     let count = line_count(form);
     lines::write_words(&PLACES[0..count], words, &mut buffer[head..size]);
     true

@@ -1,12 +1,8 @@
 -- `memory_text::is_memory_text` meets its contract. Assumes nothing.
-use Rattle.memory_text.proofs.Form.{are_words, length-refused, more_refused, lines_start, lines_more, lines-all}
-use Rattle.memory_text.specs.MemoryText.{is_memory_text}
+use Rattle.memory_text.proofs.Form.{length-refused, more_refused, lines_start, lines_more, lines-all}
 use Rattle.lines.specs.Lines.{bytes_of}
-use Prim.Native.Nat.{◌+◌, ◌-◌, ◌*◌, ◌≤◌}
-use mathlib.Core.Bool.{◌&&◌}
-use mathlib.Core.Path.{◌≡◌, sym, ◌∙◌}
+use mathlib.Core.Path.{sym, ◌∙◌}
 use native.Mathlib.Omega.{arith}
-use borrow.Author.Rules.{rules}
 use Rattle.memory_text.proofs.is_memory_text.Goals as goal
 
 pub returns-then-text-total : goal.returns-then-text-total
