@@ -181,7 +181,7 @@ page_cause_for Fetch = 12
 page_cause_for Load = 13
 page_cause_for Store = 15
 
--- "tval, at access faults too, is the virtual address": where the access Starts, or the next boundary of 4,096 bytes, at which its second part does
+-- "tval, at access faults too, is the virtual address": where the access starts, or the next boundary of 4,096 bytes, at which its second part does
 abbrev pub PartStarts : ℕ → ℕ → Type 0
 PartStarts address tval = (tval ≡ address) ⊎ (tval ≡ (address / 4096 + 1) * 4096 % 2 ^ 64)
 
@@ -195,7 +195,7 @@ pub record AccessAnswered (h : Hart) (map : Map) (access : Access) (address : �
   pub start : PartStarts address tval
   pub decision : (after ≡ handed_back h map (Granted decider)) ⊎ TrapsWith h map cause tval decider after
 
--- where an access Starts: a fetch at pc
+-- where an access starts: a fetch at pc
 abbrev pub start_of : Hart → Access → ℕ → ℕ
 start_of h Fetch address = h.state.registers.pc
 start_of h Load address = address

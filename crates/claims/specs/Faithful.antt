@@ -32,7 +32,7 @@ pub record FromText (start : Mapped) : Type 0 where
   pub map : Map
   pub read : restored form hart map text ≡ handed_back start.hart start.map Done
 
--- a run Starts from the reset state and reset map of some grain, or from what reading a text back gives
+-- a run starts from the reset state and reset map of some grain, or from what reading a text back gives
 abbrev pub Start : Mapped → Type 0
 Start start = ((grain : ℕ) × (start ≡ reset_mapped grain)) ⊎ FromText start
 
@@ -67,7 +67,7 @@ pub record FaithfulAfter (start : Mapped) (steps : List Lent) : Type 0 where
   pub unrefused : (mode : Mode) (access : Access) (address size number : ℕ) → is_size size ≡ true
       → query_after start steps mode access address size ≡ Refused number → ⊥
 
--- 01's one_range clause, widened: any two maps, any two states a hart can hold; the PMP bytes, effective mode, kind, address and size are equal,
+-- 01's one-range clause, widened: any two maps, any two states a hart can hold; the PMP bytes, effective mode, kind, address and size are equal,
 -- and for each byte of the access the lowest-numbered range holding it is the same in both maps, or missing in both
 abbrev pub SameRanges : Type 0
 SameRanges =

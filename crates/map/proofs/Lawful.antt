@@ -22,7 +22,7 @@ less a b = go (ltb a b) refl
     go true e = inl (ltb-true a b e)
     go false e = inr (ltb-false a b e)
 
--- the range Starts at `from`, holds a byte, has another owner than the range before, and owns each of its bytes
+-- the range starts at `from`, holds a byte, has another owner than the range before, and owns each of its bytes
 pub record Head (owner : ℕ → ℕ) (before from : ℕ) (r : Range) : Type 0 where
   pub Starts : r.first ≡ from
   pub some : from ≤ r.last
@@ -93,7 +93,7 @@ pub record Run (owner : ℕ → ℕ) (r : Range) : Type 0 where
   pub ends : suc r.last < top → owner (suc r.last) ≡ r.owner → ⊥
 
 module _ (owner : ℕ → ℕ) where
-  -- the first range of a lawful list is a run, and any run that Starts with it is that range
+  -- the first range of a lawful list is a run, and any run that starts with it is that range
   pub head_run : (before from : ℕ) (r : Range) (rs : List Range) → Lawful owner before from (r ∷ rs) → Run owner r
   head_run before from r rs l = record {
     some = omega (arith, l.0.Starts, l.0.some);

@@ -6,8 +6,6 @@ use mathlib.Core.Logic.{◌⊎◌, inl, inr}
 use native.Mathlib.Omega.{arith}
 use lib.ListN.{length, get_or, take, drop}
 use lib.Seq.{drop-cons, take_all, length-take-le}
-use Rattle.map.specs.declared.Range.{Range}
-use Rattle.map.specs.declared.Map.{Map}
 use Rattle.map.specs.Ranges.{range}
 use Rattle.map.specs.Lookup.{ranges_in}
 use Rattle.map.proofs.Lawful.{less}

@@ -1,7 +1,7 @@
--- The painted ranges are lawful and few, and each Starts where an entry's bytes start or end. Assumes nothing.
+-- The painted ranges are lawful and few, and each starts where an entry's bytes start or end. Assumes nothing.
 use Prim.Native.Nat.{ℕ, zero, suc, ◌+◌, ◌-◌, ◌*◌, ◌≤◌, ◌<◌, min, max}
 use mathlib.Core.Path.{◌≡◌, refl, sym, ap, subst, fun_ext, ◌∙◌}
-use mathlib.Core.Bool.{true, false, cond}
+use mathlib.Core.Bool.{cond}
 use mathlib.Core.List.{List, [], ◌∷◌, ◌++◌}
 use mathlib.Core.Logic.{◌⊎◌, inl, inr, ⊎_elim}
 use native.Mathlib.Omega.{arith}
@@ -13,7 +13,6 @@ use Rattle.pmp.specs.Entry.{top, contains}
 use Rattle.pmp.proofs.SearchLaws.{lowest-within}
 use Rattle.pmp.proofs.EntryLaws.{contains_inside, contains-below, contains-beyond}
 use Rattle.map.specs.declared.Range.{Range}
-use Rattle.map.specs.Lookup.{holds_byte}
 use Rattle.map.specs.Ranges.{range}
 use Rattle.map.specs.Painting.{range_up_to, overlay_one, overlay, paint, painted}
 use Rattle.map.specs.Sweep.{normalized}
@@ -190,7 +189,7 @@ module _ (s : Span) (i : ℕ) (own : ℕ → ℕ) (lt : s.low < s.high) (le : s.
   longer : (p a n m : ℕ) (rs : List Range) → n ≤ m → Overlaid p a rs n → Overlaid p a rs m
   longer p a n m rs h t = record { lawful = t.lawful; short = omega (arith, t.short) }
 
-  -- the whole list, where the old one stands before the bytes or Starts with them
+  -- the whole list, where the old one stands before the bytes or starts with them
   before : (rs : List Range) (p a : ℕ) → a ≤ s.low → (p ≡ i → ⊥) → Lawful own p a rs → Overlaid p a (overlay s i rs) (length rs + 2)
   before [] p a x d l = absurd (omega (arith, l))
   before (r ∷ rs) p a x d l = go (λ z. before rs r.owner (suc r.last) z (other p a r l.0) l.1) (less r.last s.low) (less a s.low)

@@ -47,7 +47,7 @@ module _ (spans : ℕ → Span) (at i end : ℕ) where
 -- ---- the range from a byte on is a run
 
 module _ (spans : ℕ → Span) (at : ℕ) (known : Normalized spans) where
-  -- no entry below i matches a byte from `at` up to `end`, and one of them Starts there unless memory ends
+  -- no entry below i matches a byte from `at` up to `end`, and one of them starts there unless memory ends
   record Free (i end : ℕ) : Type 0 where
     ahead : at < end
     bound : end ≤ top
@@ -62,7 +62,7 @@ module _ (spans : ℕ → Span) (at : ℕ) (known : Normalized spans) where
       (λ w. contradiction w.2 (lowest_fails (λ k. contains (spans k) end) 16 0 w.0 (omega arith) (omega (arith, e, w.1))))
       f.closed
 
-  -- it Starts at the byte and is a run
+  -- it starts at the byte and is a run
   abbrev pub Reached : Range → Type 0
   Reached r = (r.first ≡ at) × Run (owner_of spans) r
 

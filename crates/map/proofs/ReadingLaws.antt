@@ -31,7 +31,7 @@ use Rattle.pmp.proofs.Owner.{one_decides, two_decide}
 use Rattle.map.specs.declared.Range.{Range}
 use Rattle.map.specs.declared.Map.{Map}
 use Rattle.map.specs.declared.Reading.{Reading}
-use Rattle.map.specs.Lookup.{holds_byte, find_range, ranges_in, owner_found, owner_in}
+use Rattle.map.specs.Lookup.{holds_byte, find_range, ranges_in, owner_found}
 use Rattle.map.specs.Query.{ranges_decide, readable, unread_decides, queried}
 use Rattle.map.specs.Reading.{first_bytes, bytes_held, unread, read_range, read_ranges, reading_decides}
 use Rattle.map.proofs.Lawful.{less}

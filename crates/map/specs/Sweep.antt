@@ -9,7 +9,7 @@ use Rattle.map.specs.Ranges.{range}
 abbrev pub normalized : Span → Span
 normalized s = cond (ltb s.low s.high) s (span 0 0)
 
--- entries' bytes of which each Starts nowhere past 0 but where there are some
+-- entries' bytes of which each starts nowhere past 0 but where there are some
 pub record Normalized (spans : ℕ → Span) : Type 0 where
   pub some : (i : ℕ) → i < entries → 0 < (spans i).low → (spans i).low < (spans i).high
   pub below : (i : ℕ) → i < entries → (spans i).high ≤ top
@@ -19,7 +19,7 @@ abbrev pub spans_in : List ℕ → List ℕ → ℕ → Span
 spans_in lows highs i = record { low = get_or lows i 0; high = get_or highs i 0 }
 
 -- the range from byte `at` on by the n entries from i on, where those below i leave it the bytes up to `end`:
--- the first to match the byte owns it, up to its end or to where an entry before it Starts
+-- the first to match the byte owns it, up to its end or to where an entry before it starts
 unfoldable pub range_from : (ℕ → Span) → ℕ → ℕ → ℕ → ℕ → Range
 range_from spans at zero i end = range at (end - 1) i
 range_from spans at (suc n) i end =

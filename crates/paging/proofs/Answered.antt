@@ -11,7 +11,7 @@ use Rattle.pmp.specs.declared.Decision.{Decision}
 use Rattle.pmp.specs.declared.Decision.TheVariants.{Refused as RuleRefuses}
 use Rattle.pmp.specs.Number.{fault_cause}
 use Rattle.protection.specs.Spans.{spans_of}
-use Rattle.pmp.specs.Rule.{none, byte_rule, is_size, checked}
+use Rattle.pmp.specs.Rule.{none, is_size, checked}
 use Rattle.pmp.proofs.Answered.{GrantOrFault, grants as rule-grants, faults as rule-faults, rule_answers}
 use Rattle.protection.specs.declared.Pmp.{Pmp}
 use Rattle.paging.specs.declared.Context.{Context}
@@ -90,7 +90,7 @@ module _ (p : Pmp) (m : Memory) (c : Context) (address : ℕ) where
 
 -- ---- a grant or a fault
 
--- a grant by an entry or none; or, with the trap value at one of these Starts, an access fault by an entry or none, or a page fault by none
+-- a grant by an entry or none; or, with the trap value at one of these starts, an access fault by an entry or none, or a page fault by none
 pub data Answered (access : Access) (Start : ℕ → Type 0) : Reached → Type 0 where
   grants : (entry : ℕ) → entry ≤ none → Answered access Start (Granted entry)
   faults : (tval entry : ℕ) → Start tval → entry ≤ none → Answered access Start (Fault (fault_cause access) tval entry)
@@ -111,7 +111,7 @@ rule_answered : (access : Access) (tval : ℕ) (d : Decision) → GrantOrFault a
 rule_answered access tval _ (rule-grants entry n) = grants entry n
 rule_answered access tval _ (rule-faults entry n) = faults tval entry refl n
 
--- of two parts, each with Starts of its own
+-- of two parts, each with starts of its own
 then-answered : (access : Access) {S T R : ℕ → Type 0} (x y : Reached) → Answered access S x → Answered access T y → ((t : ℕ) → S t → R t)
     → ((t : ℕ) → T t → R t) → Answered access R (and_then x y)
 then-answered access _ _ (grants entry n) (grants other k) s t = grants other k

@@ -76,7 +76,7 @@ marked Store pte = accessed pte && dirty pte
 abbrev pub pages : ℕ → ℕ
 pages level = 512 ^ level
 
--- a superpage Starts at a multiple of its size
+-- a superpage starts at a multiple of its size
 abbrev pub aligned : ℕ → ℕ → Bool
 aligned level pte = ppn pte % pages level == 0
 

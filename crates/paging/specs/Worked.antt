@@ -145,7 +145,7 @@ settings =
     ∷ reaches (entry 0x40000 0xDF) User Load 0 (va 0 0 1 0xFFF) 2 (Fault 13 (va 0 0 2 0) none)
     ∷ reaches (entry 0x40000 0x4F) Supervisor Store 0 (va 0 0 1 0xFFC) 8 (Fault 15 (va 0 0 1 0xFFC) none)
     ∷ reaches 0 Supervisor Load 0 (va 0 0 2 0xFFC) 8 (Fault 5 (va 0 0 3 0) none)
-    -- round the end of the addresses: the second part Starts at 0
+    -- round the end of the addresses: the second part starts at 0
     ∷ loads last_word rooted Supervisor (2 ^ 64 - 1) 1 (Granted 3)
     ∷ loads last_word rooted Supervisor (2 ^ 64 - 1) 2 (Fault 5 0 none)
     -- mode M and MODE 0 are untranslated, and have no parts

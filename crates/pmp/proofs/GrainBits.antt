@@ -1,6 +1,6 @@
 -- What address registers read by the grain, bit by bit: one law for zeros and ones. Assumes nothing.
 use mathlib.Core.Path.{◌≡◌, sym, ap, ◌∙◌}
-use Prim.Native.Nat.{ℕ, zero, suc, ◌+◌, ◌-◌, ◌*◌, ◌/◌, ◌%◌, ◌^◌, ◌≤◌, ◌<◌}
+use Prim.Native.Nat.{ℕ, zero, suc, ◌+◌, ◌*◌, ◌/◌, ◌%◌, ◌^◌, ◌≤◌, ◌<◌}
 use native.Mathlib.Nat.{pow-suc, div-div-eq-div-mul, mul_assoc, mul_comm}
 use native.Mathlib.Omega.{arith}
 use lib.Pow.{pow_pos}

@@ -1,7 +1,6 @@
 -- What address registers read by the grain, as a program computes it; with a grain of 4 bytes it is what is stored. Assumes nothing.
 use mathlib.Core.Path.{◌≡◌, refl, sym, ap, ◌∙◌}
 use mathlib.Core.Bool.{Bool, true, false, cond}
-use mathlib.Core.List.{List}
 use Prim.Native.Nat.{ℕ, zero, suc, ◌+◌, ◌-◌, ◌*◌, ◌/◌, ◌%◌, ◌^◌, ◌≤◌, ◌<◌}
 use native.Mathlib.Nat.{pow-suc, div-mul-le_self, div-add-mod'}
 use lib.Bits.{bit_and, bit_or, and_mask, or_add_and}

@@ -1,5 +1,5 @@
 -- 01, "Protection, byte by byte": the bytes that an entry matches, and its lock; 02, [9]: by the grain G, 2^(G+2) bytes.
-use Rattle.std.specs.Prelude.{ℕ, zero, suc, ◌+◌, ◌-◌, ◌*◌, ◌/◌, ◌%◌, ◌^◌, min, Bool, true, false, cond, ◌&&◌, List, leb, ltb, eqb, get_or}
+use Rattle.std.specs.Prelude.{ℕ, zero, suc, ◌+◌, ◌-◌, ◌*◌, ◌/◌, ◌%◌, ◌^◌, min, Bool, cond, ◌&&◌, List, leb, ltb, eqb, get_or}
 use Rattle.pmp.specs.declared.Span.{Span}
 
 -- physical memory is the bytes below this

@@ -1,8 +1,6 @@
 -- Values of the protection registers that compare as the same, with the same grain, are equal. Assumes nothing.
 use mathlib.Core.Path.{◌≡◌}
 use mathlib.Core.Bool.{true}
-use mathlib.Core.List.{List}
-use Prim.Native.Nat.{ℕ}
 use Rattle.bits.specs.Same.{same_list}
 use Rattle.bits.proofs.Conjunction.{both, join}
 use Rattle.bits.proofs.SameLaws.{same_eq, same_refl}

@@ -1,6 +1,5 @@
 -- The number of a step tells whether it is an access. Assumes nothing.
-use Rattle.std.proofs.Common.{◌≡◌, ℕ, ◌≤◌, Bool, true, false, cond, ◌&&◌, eqb, leb, sym, refl, ap, ◌∙◌, arith, eqb-true, leb-true}
-use mathlib.Core.Bool.{false≢true}
+use Rattle.std.proofs.Common.{◌≡◌, ℕ, Bool, true, false, cond, eqb, leb, sym, refl, ap, ◌∙◌, arith, eqb-true, leb-true}
 use borrow.Author.Tests.{eqb-false}
 use Rattle.bits.proofs.Conjunction.{both}
 use Rattle.steps.specs.declared.Step.{Step}

@@ -192,7 +192,7 @@ pub length-unread : (form : Form) (t : List ℕ) → (length t ≡ length_of for
 unfolding read_text is_text_of
 length-unread form t h = rw (← same_lengths t (text_of form (words_of_text form t)) (λ e. h (e ∙ text-length form (words_of_text form t))))
 
--- ---- the loop over the lines, where i of them are read and the next Starts at place p
+-- ---- the loop over the lines, where i of them are read and the next starts at place p
 
 module _ (template ps : List ℕ) (i p : ℕ) where
   abbrev digits : ℕ

@@ -30,18 +30,18 @@ field_cases P a b c d (suc (suc (suc (suc v)))) h = absurd (omega arith)
 kept : (x : ℕ) → status_holdable x ≡ true → kept_status x ≡ x
 kept x p = eqb-true (kept_status x) x (status_held x p).kept
 
--- ---- entry: var 0 is mstatus, var 1 mstatus four places up, var 2 the old mode at x_pp
+-- ---- entry: var 0 is mstatus, var 1 mstatus four places up, var 2 the old mode at xPP
 
 abbrev entered_e : Level → E
 entered_e level =
     or (and (var 0) (lit (2 ^ 64 - 1 - (ie_mask level + pie_mask level + pp_mask level)))) (or (and (var 1) (lit (pie_mask level))) (var 2))
 
--- x_ie moves to x_pie
+-- xIE moves to xPIE
 moved_up : (level : Level) (x : ℕ) → bit_and x (ie_mask level) * 16 ≡ bit_and (x * 16) (pie_mask level)
 moved_up Supervisor x = and_shl x 0x2 4
 moved_up Machine x = and_shl x 0x8 4
 
--- a mode at x_pp has no bits beside it
+-- a mode at xPP has no bits beside it
 at_pp : (level : Level) (mode : ℕ) → bit_and (mode % pp_modes level * pp_unit level) (pp_mask level) ≡ mode % pp_modes level * pp_unit level
 at_pp Supervisor mode = rw (and_high (mode % 2 * 0x100) 1 8) (omega arith)
 at_pp Machine mode = rw (and_high (mode % 4 * 0x800) 2 11) (omega arith)
@@ -76,13 +76,13 @@ entered_status_holdable level mode x m p =
     (solve (entered_kept level) (x ∷ x * 16 ∷ mode % pp_modes level * pp_unit level ∷ []) (entered_check level) (kept x p) (at_pp level mode)))
     (entered_mpp_held level mode x m (status_held x p).mpp))
 
--- ---- return: var 0 is mstatus, var 1 mstatus four places down, var 2 the bits that are left beside x_ie and x_pp
+-- ---- return: var 0 is mstatus, var 1 mstatus four places down, var 2 the bits that are left beside xIE and xPP
 
 abbrev returned_e : Level → E
 returned_e level =
     or (and (and (var 0) (var 2)) (lit (2 ^ 64 - 1 - (ie_mask level + pp_mask level)))) (or (and (var 1) (lit (ie_mask level))) (lit (pie_mask level)))
 
--- x_pie moves to x_ie
+-- xPIE moves to xIE
 moved_down : (level : Level) (x : ℕ) → bit_and x (pie_mask level) / 16 ≡ bit_and (x / 16) (ie_mask level)
 moved_down Supervisor x = and_shr x 0x20 4
 moved_down Machine x = and_shr x 0x80 4
@@ -125,7 +125,7 @@ returned_status_holdable level x p =
     (join _ _ (eq-eqb _ _ (solve (returned_kept level) (x ∷ x / 16 ∷ left ∷ []) w.0 l (kept x p)))
     (rw (solve (returned_mpp_is level) (x ∷ x / 16 ∷ left ∷ []) w.1 l) (mpp_held level x (x / 16) left (status_held x p).mpp)))
 
--- ---- x_pp names a mode
+-- ---- xPP names a mode
 
 pub previous_mode_holdable : (level : Level) (mstatus : ℕ) → status_holdable mstatus ≡ true → is_mode (previous_mode level mstatus) ≡ true
 previous_mode_holdable Supervisor x p =

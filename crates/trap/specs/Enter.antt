@@ -29,7 +29,7 @@ abbrev pub handler : ℕ → Trap → ℕ
 handler tvec (Exception c) = base tvec
 handler tvec (Interrupt i) = cond (tvec % 4 == 1) ((base tvec + 4 * i) % 2 ^ 64) (base tvec)
 
--- x_pie=x_ie, x_ie=0, x_pp=old mode
+-- xPIE=xIE, xIE=0, xPP=old mode
 unfoldable pub entered_status : Level → ℕ → ℕ → ℕ
 entered_status level mode mstatus =
     bit_or (cleared (ie_mask level + pie_mask level + pp_mask level) mstatus)

@@ -14,13 +14,13 @@ use Rattle.trap.specs.Enter.{illegal_instruction}
 abbrev pub cleared_mprv : ℕ → ℕ
 cleared_mprv mode = cond (mode == 3) 0 mprv_mask
 
--- x_ie=x_pie, x_pie=1, x_pp=0, and MPRV=0 unless the new mode is M
+-- xIE=xPIE, xPIE=1, xPP=0, and MPRV=0 unless the new mode is M
 unfoldable pub returned_status : Level → ℕ → ℕ
 returned_status level mstatus =
     bit_or (cleared (ie_mask level + pp_mask level) (cleared (cleared_mprv (previous_mode level mstatus)) mstatus))
     (bit_or (bit_and mstatus (pie_mask level) / 16) (pie_mask level))
 
--- pc=xepc, mode=x_pp
+-- pc=xepc, mode=xPP
 unfoldable pub returned : Level → Registers → Registers
 returned level r =
     with_flow r (previous_mode level r.mstatus) (level_of level r).epc (returned_status level r.mstatus)

@@ -1,5 +1,4 @@
 use borrow.Author.Tests.{lt-ltb, le-ltb}
-use borrow.Author.Rules.{rules}
 use Rattle.lines.proofs.digit_value.Goals as goal
 
 pub returns-then-code-lt58 : goal.returns-then-code-lt58

@@ -1,12 +1,9 @@
 use Rattle.lines.proofs.Reading.{key_missing, key_start, key_more, key_all}
-use Rattle.lines.specs.Fields.{are_key, has_key}
-use lib.ListN.{length, drop}
-use Prim.Native.Nat.{◌+◌, ◌-◌, ◌≤◌}
-use mathlib.Core.Bool.{◌&&◌}
-use mathlib.Core.Path.{◌≡◌, sym, ◌∙◌}
+use lib.ListN.{length}
+use Prim.Native.Nat.{◌+◌}
+use mathlib.Core.Path.{sym, ◌∙◌}
 use native.Mathlib.Omega.{arith}
-use borrow.Author.Tests.{leb-true, not-true, not-false}
-use borrow.Author.Rules.{rules}
+use borrow.Author.Tests.{leb-true}
 use Rattle.lines.proofs.has_key.Goals as goal
 
 pub returns-then-not-has_room : goal.returns-then-not-has_room

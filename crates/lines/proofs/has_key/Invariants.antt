@@ -1,12 +1,8 @@
-use Rattle.lines.proofs.Reading.{key_missing, key_start, key_more, key_all}
 use Rattle.lines.specs.Fields.{are_key, has_key}
 use lib.ListN.{length, drop}
 use Prim.Native.Nat.{◌+◌, ◌-◌, ◌≤◌}
 use mathlib.Core.Bool.{◌&&◌}
-use mathlib.Core.Path.{◌≡◌, sym, ◌∙◌}
-use native.Mathlib.Omega.{arith}
-use borrow.Author.Tests.{leb-true, not-true, not-false}
-use borrow.Author.Rules.{rules}
+use mathlib.Core.Path.{◌≡◌}
 use Rattle.lines.proofs.has_key.Given as goal
 
 abbrev pub invariant-loop-i : goal.invariant-loop-i

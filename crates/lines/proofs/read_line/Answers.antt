@@ -3,8 +3,7 @@ use Rattle.lines.specs.Fields.{line_at}
 use Prim.Native.Nat.{◌+◌}
 use mathlib.Core.Path.{◌∙◌, sym}
 use native.Mathlib.Omega.{arith}
-use borrow.Author.Tests.{leb-true, not-true, not-false}
-use borrow.Author.Rules.{rules}
+use borrow.Author.Tests.{leb-true}
 use lib.ListN.{length}
 use Rattle.lines.proofs.read_line.Goals as goal
 

@@ -1,12 +1,10 @@
 -- `lines::write_digits` meets its contract: the digits that are left are still to be written. Assumes nothing.
 use Rattle.lines.proofs.Digits.{digit_bytes, digit_found, digits-start, digits_more, digits-all}
-use Rattle.lines.specs.Lines.{bytes_of, hex_digits}
-use lib.ListN.{length, get_or, length-set}
-use lib.Seq.{sets}
-use Prim.Native.Nat.{◌+◌, ◌-◌, ◌*◌, ◌/◌, ◌%◌, ◌^◌, ◌≤◌}
-use mathlib.Core.Path.{◌≡◌, refl, sym, ◌∙◌}
+use Rattle.lines.specs.Lines.{bytes_of}
+use lib.ListN.{get_or, length-set}
+use Prim.Native.Nat.{◌+◌, ◌-◌, ◌*◌, ◌/◌, ◌%◌, ◌^◌}
+use mathlib.Core.Path.{refl, sym, ◌∙◌}
 use native.Mathlib.Omega.{arith}
-use borrow.Author.Rules.{rules}
 use Rattle.lines.proofs.write_digits.Goals as goal
 
 pub loop-j-init : goal.loop-j-init

@@ -1,12 +1,9 @@
 -- `lines::write_digits` meets its contract: the digits that are left are still to be written. Assumes nothing.
-use Rattle.lines.proofs.Digits.{digit_bytes, digit_found, digits-start, digits_more, digits-all}
-use Rattle.lines.specs.Lines.{bytes_of, hex_digits}
-use lib.ListN.{length, get_or, length-set}
+use Rattle.lines.specs.Lines.{hex_digits}
+use lib.ListN.{length}
 use lib.Seq.{sets}
-use Prim.Native.Nat.{◌+◌, ◌-◌, ◌*◌, ◌/◌, ◌%◌, ◌^◌, ◌≤◌}
-use mathlib.Core.Path.{◌≡◌, refl, sym, ◌∙◌}
-use native.Mathlib.Omega.{arith}
-use borrow.Author.Rules.{rules}
+use Prim.Native.Nat.{◌+◌, ◌-◌, ◌≤◌}
+use mathlib.Core.Path.{◌≡◌}
 use Rattle.lines.proofs.write_digits.Given as goal
 
 abbrev pub invariant-loop-j : goal.invariant-loop-j

@@ -3,7 +3,7 @@ use Rattle.lines.specs.Places.{has_room}
 use Prim.Native.Nat.{◌+◌}
 use mathlib.Core.Bool.{true}
 use mathlib.Core.Path.{◌≡◌, ◌∙◌, sym}
-use borrow.Author.Tests.{leb-true, not-true, not-false}
+use borrow.Author.Tests.{leb-true}
 use lib.ListN.{length}
 use borrow.Author.Rules.{rules}
 use Rattle.lines.proofs.write_word.Statement.{statement}

@@ -1,8 +1,5 @@
 use Rattle.lines.proofs.Words.{write_more, write_all}
-use Rattle.lines.specs.Places.{with_words}
-use lib.ListN.{length, drop}
-use Prim.Native.Nat.{◌-◌, ◌≤◌}
-use mathlib.Core.Path.{◌≡◌, refl, sym, ◌∙◌}
+use mathlib.Core.Path.{refl, sym, ◌∙◌}
 use native.Mathlib.Omega.{arith}
 use borrow.Author.Rules.{rules}
 use Rattle.lines.proofs.write_words.Goals as goal

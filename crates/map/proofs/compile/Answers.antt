@@ -1,16 +1,15 @@
 -- `map::compile` meets its contract: the arrays hold the bytes of the entries before the next one. Assumes nothing.
-use Prim.Native.Nat.{ℕ, ◌≤◌, ◌-◌}
-use mathlib.Core.Path.{◌≡◌, refl, sym, ap, subst, ◌∙◌}
+use Prim.Native.Nat.{ℕ}
+use mathlib.Core.Path.{refl, sym, ap, subst, ◌∙◌}
 use native.Mathlib.Omega.{arith}
 use native.Mathlib.Numerals.{add-one}
-use borrow.Author.Rules.{rules}
-use lib.ListN.{length, get_or, length-set}
-use Rattle.pmp.specs.Entry.{span_read, field_a, address_before, entry_span}
+use lib.ListN.{get_or, length-set}
+use Rattle.pmp.specs.Entry.{span_read, field_a, entry_span}
 use Rattle.map.specs.Compiled.{compiled}
 use Rattle.map.specs.Boundaries.{Boundaries}
 use Rattle.map.proofs.MapLaws.{entry-below}
 use Rattle.map.proofs.Boundaries.{boundaries}
-use Rattle.map.proofs.SweepLaws.{Filled, filled_next, filled_normalized, filled_compiled}
+use Rattle.map.proofs.SweepLaws.{filled_next, filled_normalized, filled_compiled}
 use Rattle.map.proofs.compile.Goals as goal
 
 pub loop-entry-init : goal.loop-entry-init

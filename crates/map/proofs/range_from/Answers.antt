@@ -1,10 +1,7 @@
 -- `map::range_from` meets its contract: the entries from the next one on, and the bytes that those before leave, decide the range. Assumes nothing.
-use Prim.Native.Nat.{◌≤◌, ◌<◌, ◌-◌}
-use mathlib.Core.Path.{◌≡◌, refl, sym, ◌∙◌}
+use mathlib.Core.Path.{refl, sym, ◌∙◌}
 use native.Mathlib.Omega.{arith}
-use borrow.Author.Rules.{rules}
-use Rattle.pmp.specs.Entry.{top}
-use Rattle.map.specs.Sweep.{spans_in, range_from}
+use Rattle.map.specs.Sweep.{spans_in}
 use Rattle.map.proofs.RangeFromLaws.{from-later, from-owner, from_past, from_end}
 use Rattle.map.proofs.range_from.Goals as goal
 

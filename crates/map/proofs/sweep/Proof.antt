@@ -1,4 +1,4 @@
--- `map::sweep` meets its contract: the ranges found stand in the array's first places, and what is left Starts at the next byte.
+-- `map::sweep` meets its contract: the ranges found stand in the array's first places, and what is left starts at the next byte.
 -- There is room for the next range since there are at most 33. Assumes nothing.
 use Prim.Native.Nat.{ℕ, ◌-◌, ◌≤◌, ◌<◌}
 use native.Mathlib.Omega.{arith}

@@ -1,6 +1,5 @@
 use mathlib.Core.Path.{◌∙◌}
-use borrow.Author.Rules.{rules}
-use Rattle.records.specs.Records.{read_step, naming, read_numbers}
+use Rattle.records.specs.Records.{read_step, read_numbers}
 use Rattle.records.proofs.read_numbers.Goals as goal
 
 pub returns : goal.returns

@@ -2,12 +2,8 @@ use Rattle.records.proofs.Reading.{record_judged, record_short}
 use Rattle.records.specs.declared.Record.TheVariants.{Words, Broken}
 use Rattle.records.specs.Records.{read_record}
 use Rattle.lines.specs.Lines.{bytes_of}
-use Rattle.lines.specs.declared.Field.{Field}
 use mathlib.Core.Bool.{cond, ◌&&◌}
 use mathlib.Core.Path.{◌≡◌, sym}
-use Prim.Native.Nat.{ℕ}
-use lib.ListN.{length}
-use mathlib.Core.List.{List}
 use Rattle.records.proofs.read_record.Goals as goal
 
 pub returns-then-text-ne60 : goal.returns-then-text-ne60

@@ -1,5 +1,4 @@
 use Rattle.records.specs.Records.{record_step}
-use borrow.Author.Rules.{rules}
 use Rattle.records.proofs.record_step.Goals as goal
 
 pub returns-then-unused_are_zero : goal.returns-then-unused_are_zero

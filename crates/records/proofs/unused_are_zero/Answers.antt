@@ -1,5 +1,4 @@
 use Rattle.records.specs.Records.{unused_are_zero}
-use borrow.Author.Rules.{rules}
 use Rattle.records.proofs.unused_are_zero.Goals as goal
 
 pub returns : goal.returns

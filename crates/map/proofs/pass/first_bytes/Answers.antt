@@ -1,6 +1,5 @@
 -- `map::pass::first_bytes` meets its contract: at most eight bits fit a word. Assumes nothing.
 use native.Mathlib.Omega.{arith}
-use borrow.Author.Rules.{rules}
 use lib.Pow.{pow_pos}
 use Rattle.pmp.proofs.EntryLaws.{power_fits}
 use Rattle.map.proofs.pass.first_bytes.Goals as goal

@@ -1,5 +1,4 @@
 -- `map::pass::read_range` meets its contract. Assumes nothing.
-use borrow.Author.Rules.{rules}
 use borrow.Author.Tests.{eq-eqb, ne_eqb}
 use Rattle.map.specs.Reading.{read_range}
 use Rattle.map.proofs.pass.read_range.Goals as goal

@@ -1,5 +1,4 @@
 -- `map::pass::start` meets its contract. Assumes nothing.
-use borrow.Author.Rules.{rules}
 use Rattle.map.proofs.pass.start.Goals as goal
 
 pub returns : goal.returns

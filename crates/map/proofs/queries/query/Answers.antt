@@ -1,7 +1,5 @@
 -- `map::queries::query` meets its contract: what is read in one pass decides. Assumes nothing.
 use mathlib.Core.Path.{sym, ◌∙◌}
-use borrow.Author.Rules.{rules}
-use borrow.Author.Tests.{not-true, not-false}
 use Rattle.map.specs.Lookup.{ranges_in}
 use Rattle.map.proofs.ReadingLaws.{low_bound, read-queried, unread-queried}
 use Rattle.map.proofs.queries.query.Goals as goal

@@ -1,7 +1,6 @@
 -- `map::queries::ranges_in` meets its contract. Assumes nothing.
 use mathlib.Core.Path.{sym, ◌∙◌}
 use native.Mathlib.Omega.{arith}
-use borrow.Author.Rules.{rules}
 use Rattle.map.proofs.MapWords.{no_ranges, ranges-number}
 use Rattle.map.proofs.queries.ranges_in.Goals as goal
 

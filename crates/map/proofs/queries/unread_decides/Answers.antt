@@ -1,7 +1,6 @@
 -- `map::queries::unread_decides` meets its contract. Assumes nothing.
 use Prim.Native.Nat.{ℕ}
 use mathlib.Core.Path.{ap}
-use borrow.Author.Rules.{rules}
 use Rattle.pmp.specs.declared.Decision.TheVariants.{Fault}
 use Rattle.pmp.specs.Rule.{none}
 use Rattle.map.proofs.queries.unread_decides.Goals as goal

@@ -1,5 +1,5 @@
 -- `paging::access::first_part` meets its contract. Assumes nothing.
-use Rattle.std.proofs.Common.{◌≡◌, ℕ, ◌<◌, ◌≤◌, min, Bool, true, false, cond, ◌&&◌, ltb, refl, arith, rules, ltb-false, ltb-true}
+use Rattle.std.proofs.Common.{◌≡◌, ℕ, ◌<◌, ◌≤◌, min, Bool, true, false, cond, ◌&&◌, ltb, refl, arith, ltb-false, ltb-true}
 use Rattle.paging.specs.Access.{room}
 use Rattle.bits.proofs.Conjunction.{contradiction}
 use Rattle.paging.proofs.access.first_part.Goals as goal

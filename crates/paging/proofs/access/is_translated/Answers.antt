@@ -1,5 +1,4 @@
 -- `paging::access::is_translated` meets its contract. Assumes nothing.
-use Rattle.std.proofs.Common.{rules}
 use Rattle.paging.proofs.access.is_translated.Goals as goal
 
 pub returns-in-User : goal.returns-in-User

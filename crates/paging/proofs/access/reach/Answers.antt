@@ -1,6 +1,5 @@
 -- `paging::access::reach` meets its contract. Assumes nothing.
-use Rattle.std.proofs.Common.{sym, ◌∙◌, rules}
-use borrow.Author.Tests.{not-true, not-false}
+use Rattle.std.proofs.Common.{sym, ◌∙◌}
 use Rattle.paging.specs.Access.{reached}
 use Rattle.paging.proofs.access.reach.Goals as goal
 

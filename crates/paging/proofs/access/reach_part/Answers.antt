@@ -1,18 +1,11 @@
 -- `paging::access::reach_part` meets its contract: what the checks that are left come to is what the part comes to. Assumes nothing.
-use Rattle.std.proofs.Common.{◌≡◌, ℕ, ◌-◌, ◌≤◌, sym, refl, ap, ◌∙◌, ⊎_elim, arith, rules}
-use borrow.Author.Tests.{not-true, not-false}
-use Rattle.pmp.specs.declared.Decision.{Decision}
-use Rattle.pmp.specs.Number.{fault_cause}
-use Rattle.protection.specs.declared.Pmp.{Pmp}
-use Rattle.paging.specs.declared.Word.{Word}
-use Rattle.paging.specs.declared.Word.TheVariants.{Denied}
+use Rattle.std.proofs.Common.{◌-◌, sym, refl, ap, ◌∙◌, arith}
 use Rattle.paging.specs.declared.Found.{Found}
 use Rattle.paging.specs.declared.Found.TheVariants.{Ends}
-use Rattle.paging.specs.declared.Reached.TheVariants.{Fault}
-use Rattle.paging.specs.Memory.{memory_at, word_at}
-use Rattle.paging.specs.Walk.{read_by, word_says, onward, walk_from}
-use Rattle.paging.specs.Access.{by_rule, arrived, part_reached}
-use Rattle.paging.proofs.AccessLaws.{stage, stage_physical, stage_walk, stage_stray, denied, check_ends, check_reads, check_denies, stage_on, stage_out}
+use Rattle.paging.specs.Memory.{memory_at}
+use Rattle.paging.specs.Walk.{onward, walk_from}
+use Rattle.paging.specs.Access.{arrived}
+use Rattle.paging.proofs.AccessLaws.{stage_physical, stage_walk, stage_stray, check_ends, check_reads, check_denies, stage_on, stage_out}
 use Rattle.paging.proofs.access.reach_part.Goals as goal
 use Rattle.paging.proofs.access.reach_part.Goals.{then-is_translated+else-not-is_canonical, else-is_translated}
 

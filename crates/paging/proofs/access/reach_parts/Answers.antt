@@ -1,8 +1,5 @@
 -- `paging::access::reach_parts` meets its contract: what is left of the access decides as the whole does. Assumes nothing.
-use Rattle.std.proofs.Common.{◌≡◌, ◌-◌, ◌≤◌, sym, refl, ◌∙◌, arith, rules}
-use Rattle.paging.specs.declared.Reached.{Reached}
-use Rattle.paging.specs.Memory.{memory_at}
-use Rattle.paging.specs.Access.{part_reached, parts_reached}
+use Rattle.std.proofs.Common.{sym, refl, ◌∙◌, arith}
 use Rattle.paging.proofs.AccessLaws.{parts_last, parts_stop, parts_next}
 use Rattle.paging.proofs.access.reach_parts.Goals as goal
 

@@ -1,5 +1,5 @@
 -- `paging::entry::entry_says` meets its contract. Assumes nothing.
-use Rattle.std.proofs.Common.{sym, ap, ◌∙◌, rules}
+use Rattle.std.proofs.Common.{sym, ap, ◌∙◌}
 use Rattle.paging.specs.declared.Found.TheVariants.{Table, Ends}
 use Rattle.paging.specs.Entry.{entry_says}
 use Rattle.paging.proofs.entry.entry_says.Goals as goal

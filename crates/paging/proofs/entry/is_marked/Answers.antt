@@ -1,5 +1,4 @@
 -- `paging::entry::is_marked` meets its contract. Assumes nothing.
-use Rattle.std.proofs.Common.{rules}
 use Rattle.paging.proofs.entry.is_marked.Goals as goal
 
 pub returns-in-Fetch : goal.returns-in-Fetch

@@ -1,5 +1,4 @@
 -- `paging::entry::is_permitted` meets its contract. Assumes nothing.
-use Rattle.std.proofs.Common.{rules}
 use Rattle.paging.proofs.entry.is_permitted.Goals as goal
 
 pub returns-in-Fetch : goal.returns-in-Fetch

@@ -1,5 +1,4 @@
 -- `paging::entry::is_usable` meets its contract. Assumes nothing.
-use Rattle.std.proofs.Common.{rules}
 use Rattle.paging.proofs.entry.is_usable.Goals as goal
 
 pub returns-in-User : goal.returns-in-User

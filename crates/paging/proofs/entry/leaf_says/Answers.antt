@@ -1,5 +1,5 @@
 -- `paging::entry::leaf_says` meets its contract. Assumes nothing.
-use Rattle.std.proofs.Common.{◌≡◌, Bool, true, false, cond, arith, rules}
+use Rattle.std.proofs.Common.{◌≡◌, Bool, true, false, cond, arith}
 use Rattle.paging.specs.declared.Walked.{Walked}
 use Rattle.paging.proofs.WalkLaws.{pages_bounds, place-fits}
 use Rattle.paging.proofs.entry.leaf_says.Goals as goal

@@ -1,5 +1,4 @@
 -- `paging::entry::sum_allows` meets its contract. Assumes nothing.
-use Rattle.std.proofs.Common.{rules}
 use Rattle.paging.proofs.entry.sum_allows.Goals as goal
 
 pub returns-in-Load : goal.returns-in-Load

@@ -1,5 +1,5 @@
 -- `paging::walk::entry_address` meets its contract. Assumes nothing.
-use Rattle.std.proofs.Common.{arith, rules}
+use Rattle.std.proofs.Common.{arith}
 use Rattle.paging.proofs.WalkLaws.{pages_bounds}
 use Rattle.paging.proofs.walk.entry_address.Goals as goal
 

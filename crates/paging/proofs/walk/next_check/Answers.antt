@@ -1,5 +1,5 @@
 -- `paging::walk::next_check` meets its contract. Assumes nothing.
-use Rattle.std.proofs.Common.{◌∙◌, rules}
+use Rattle.std.proofs.Common.{◌∙◌}
 use Rattle.paging.proofs.WalkLaws.{check_last, check_read}
 use Rattle.paging.proofs.walk.next_check.Goals as goal
 

@@ -1,5 +1,4 @@
 -- `paging::walk::word_says` meets its contract. Assumes nothing.
-use Rattle.std.proofs.Common.{rules}
 use Rattle.paging.proofs.walk.word_says.Goals as goal
 
 pub returns-in-Read : goal.returns-in-Read

@@ -1,6 +1,5 @@
 -- `pmp::entry::address_matched` meets its contract. Assumes nothing.
 use borrow.Author.Tests.{eq-eqb, ne_eqb}
-use borrow.Author.Rules.{rules}
 use Rattle.pmp.proofs.entry.address_matched.Goals as goal
 
 pub returns-then-cfg-eq2 : goal.returns-then-cfg-eq2

@@ -1,6 +1,5 @@
 -- `pmp::entry::address_read` meets its contract: by A[1] zeros or ones. Assumes nothing.
 use borrow.Author.Tests.{lt-ltb, le-ltb}
-use borrow.Author.Rules.{rules}
 use Rattle.pmp.specs.Entry.{address_read}
 use Rattle.pmp.proofs.entry.address_read.Goals as goal
 

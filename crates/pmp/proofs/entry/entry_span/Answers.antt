@@ -1,6 +1,5 @@
 -- `pmp::entry::entry_span` meets its contract. Assumes nothing.
 use mathlib.Core.Path.{◌∙◌}
-use borrow.Author.Rules.{rules}
 use Rattle.pmp.specs.Entry.{span_of, field_a}
 use Rattle.pmp.proofs.entry.entry_span.Goals as goal
 

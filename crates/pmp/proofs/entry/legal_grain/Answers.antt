@@ -2,7 +2,6 @@
 use mathlib.Core.Path.{sym, ◌∙◌}
 use native.Mathlib.Omega.{arith}
 use borrow.Author.Tests.{ltb-true}
-use borrow.Author.Rules.{rules}
 use Rattle.pmp.proofs.entry.legal_grain.Goals as goal
 
 pub returns-then-grain_can_hold : goal.returns-then-grain_can_hold

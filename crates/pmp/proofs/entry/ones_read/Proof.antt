@@ -1,5 +1,5 @@
 -- `pmp::entry::ones_read` meets its contract. Assumes nothing.
-use Prim.Native.Nat.{◌*◌, ◌%◌, ◌^◌, ◌<◌}
+use Prim.Native.Nat.{◌*◌, ◌%◌, ◌^◌}
 use mathlib.Core.Path.{◌≡◌}
 use native.Mathlib.Omega.{arith}
 use lib.Pow.{pow_pos}

@@ -1,6 +1,5 @@
 -- `pmp::entry::span_of` meets its contract: the A field, a number below 4, picks the clause of the definition. Assumes nothing.
 use native.Mathlib.Omega.{arith}
-use borrow.Author.Rules.{rules}
 use Rattle.pmp.specs.Entry.{span_of, field_a}
 use Rattle.pmp.proofs.EntryLaws.{span_same, field_three}
 use Rattle.pmp.proofs.entry.span_of.Goals as goal

@@ -3,7 +3,6 @@ use Prim.Native.Nat.{ℕ}
 use mathlib.Core.Path.{refl, sym, ap, ◌∙◌}
 use mathlib.Core.Bool.{cond}
 use native.Mathlib.Omega.{arith}
-use borrow.Author.Rules.{rules}
 use Rattle.pmp.specs.declared.Decision.TheVariants.{Fault}
 use Rattle.pmp.specs.Number.{fault_cause}
 use Rattle.pmp.specs.Search.{every_byte}

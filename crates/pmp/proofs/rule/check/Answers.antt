@@ -1,6 +1,5 @@
 -- `pmp::rule::check` meets its contract. Assumes nothing.
 use mathlib.Core.Path.{sym, ◌∙◌}
-use borrow.Author.Rules.{rules}
 use Rattle.pmp.proofs.RuleLaws.{checked_refused, checked_rule}
 use Rattle.pmp.proofs.rule.check.Goals as goal
 

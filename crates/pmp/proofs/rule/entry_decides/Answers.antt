@@ -1,7 +1,6 @@
 -- `pmp::rule::entry_decides` meets its contract. Assumes nothing.
 use mathlib.Core.Path.{◌≡◌, sym, ◌∙◌}
 use mathlib.Core.Bool.{true, false}
-use borrow.Author.Rules.{rules}
 use Rattle.pmp.specs.Entry.{locked}
 use Rattle.pmp.proofs.rule.entry_decides.Goals as goal
 

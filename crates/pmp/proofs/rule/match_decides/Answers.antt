@@ -1,7 +1,6 @@
 -- `pmp::rule::match_decides` meets its contract. Assumes nothing.
 use Prim.Native.Nat.{ℕ}
 use mathlib.Core.Path.{ap}
-use borrow.Author.Rules.{rules}
 use Rattle.pmp.specs.declared.Decision.TheVariants.{Fault}
 use Rattle.pmp.proofs.rule.match_decides.Goals as goal
 

@@ -1,7 +1,6 @@
 -- `pmp::rule::none_decides` meets its contract. Assumes nothing.
 use mathlib.Core.Path.{ap}
 use Prim.Native.Nat.{ℕ}
-use borrow.Author.Rules.{rules}
 use Rattle.pmp.specs.declared.Decision.TheVariants.{Fault}
 use Rattle.pmp.specs.Rule.{none}
 use Rattle.pmp.proofs.rule.none_decides.Goals as goal

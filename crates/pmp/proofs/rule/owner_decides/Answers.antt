@@ -1,5 +1,4 @@
 -- `pmp::rule::owner_decides` meets its contract. Assumes nothing.
-use borrow.Author.Rules.{rules}
 use borrow.Author.Tests.{lt-ltb, le-ltb}
 use Rattle.pmp.proofs.rule.owner_decides.Goals as goal
 

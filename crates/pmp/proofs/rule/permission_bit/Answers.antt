@@ -1,5 +1,4 @@
 -- `pmp::rule::permission_bit` meets its contract. Assumes nothing.
-use borrow.Author.Rules.{rules}
 use Rattle.pmp.proofs.rule.permission_bit.Goals as goal
 
 pub returns-in-Fetch : goal.returns-in-Fetch

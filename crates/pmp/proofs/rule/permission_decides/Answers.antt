@@ -1,7 +1,6 @@
 -- `pmp::rule::permission_decides` meets its contract. Assumes nothing.
 use mathlib.Core.Path.{ap}
 use Prim.Native.Nat.{ℕ}
-use borrow.Author.Rules.{rules}
 use borrow.Author.Tests.{ne_eqb}
 use Rattle.pmp.specs.declared.Decision.TheVariants.{Fault}
 use Rattle.pmp.proofs.rule.permission_decides.Goals as goal

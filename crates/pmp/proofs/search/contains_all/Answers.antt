@@ -1,5 +1,4 @@
 -- `pmp::search::contains_all` meets its contract. Assumes nothing.
-use borrow.Author.Rules.{rules}
 use Rattle.pmp.proofs.EntryLaws.{contains_every}
 use Rattle.pmp.proofs.search.contains_all.Goals as goal
 

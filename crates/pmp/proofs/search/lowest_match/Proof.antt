@@ -2,7 +2,6 @@
 -- Outer loop: what is left of the entries decides which is the lowest, and the address before is at hand. Assumes nothing.
 use mathlib.Core.Path.{◌≡◌, refl, sym, ap, ◌∙◌}
 use mathlib.Core.Bool.{Bool, false}
-use mathlib.Core.Logic.{⊎_elim}
 use Prim.Native.Nat.{ℕ, ◌+◌, ◌-◌, ◌≤◌}
 use native.Mathlib.Omega.{arith}
 use native.Mathlib.Numerals.{add-one}
@@ -77,13 +76,13 @@ search-again c =
     let spans = entry_span a.grain a.cfgs a.addrs in
     let missed : any_byte (contains (spans e.entry)) a.size a.address ≡ false =
     elim c.if-overlap.branch [
-      then-overlap+else-loop-byte-test w ↦
-        sym (ap (λ (r : Span). any_byte (contains r) a.size a.address) (t.overlapping-overlap.ensures.1 w.if-overlap.true ∙ own))
-        ∙ w.loop-byte.invariant.1
-        ∙ any_end (contains t.overlapping-overlap.result.span) a.size a.address w.loop-byte.byte w.loop-byte-test.false
+      | then-overlap+else-loop-byte-test w ↦
+          sym (ap (λ (r : Span). any_byte (contains r) a.size a.address) (t.overlapping-overlap.ensures.1 w.if-overlap.true ∙ own))
+          ∙ w.loop-byte.invariant.1
+          ∙ any_end (contains t.overlapping-overlap.result.span) a.size a.address w.loop-byte.byte w.loop-byte-test.false
       | else-overlap w ↦
-        contains-none (spans e.entry) a.size a.address
-        (sym (t.overlapping-overlap.ensures.0 ∙ ap (λ (r : Span). overlaps r a.address a.size) own) ∙ w.if-overlap.false)
+          contains-none (spans e.entry) a.size a.address
+          (sym (t.overlapping-overlap.ensures.0 ∙ ap (λ (r : Span). overlaps r a.address a.size) own) ∙ w.if-overlap.false)
     ] in (
       omega arith,
       rw add-one,

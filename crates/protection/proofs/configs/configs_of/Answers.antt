@@ -1,5 +1,4 @@
 use Rattle.protection.specs.Configs.{unpacked, configs_of}
-use borrow.Author.Rules.{rules}
 use Rattle.protection.proofs.configs.configs_of.Goals as goal
 
 pub returns : goal.returns

@@ -1,7 +1,7 @@
 use Rattle.protection.proofs.ConfigLoops.{pack_more, pack_all, word_fits}
 use Rattle.protection.specs.Configs.{packed}
-use lib.ListN.{length, take, drop}
-use Prim.Native.Nat.{◌+◌, ◌-◌, ◌*◌, ◌^◌, ◌≤◌, ◌<◌}
+use lib.ListN.{length}
+use Prim.Native.Nat.{◌+◌, ◌-◌}
 use mathlib.Core.Path.{◌≡◌, refl}
 use native.Mathlib.Omega.{arith}
 use borrow.Author.Rules.{rules}

@@ -1,10 +1,7 @@
 use Rattle.protection.proofs.ConfigLoops.{unpack_start, unpack_more, unpack_all}
-use Rattle.protection.specs.Configs.{unpacked}
-use lib.Seq.{sets}
-use Prim.Native.Nat.{◌+◌, ◌-◌, ◌≤◌}
-use mathlib.Core.Path.{◌≡◌, sym, ◌∙◌}
+use Prim.Native.Nat.{◌+◌}
+use mathlib.Core.Path.{sym, ◌∙◌}
 use native.Mathlib.Omega.{arith}
-use borrow.Author.Rules.{rules}
 use Rattle.protection.proofs.configs.unpack.Goals as goal
 
 pub loop-i-init : goal.loop-i-init

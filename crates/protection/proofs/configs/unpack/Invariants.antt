@@ -1,10 +1,7 @@
-use Rattle.protection.proofs.ConfigLoops.{unpack_start, unpack_more, unpack_all}
 use Rattle.protection.specs.Configs.{unpacked}
 use lib.Seq.{sets}
 use Prim.Native.Nat.{◌+◌, ◌-◌, ◌≤◌}
-use mathlib.Core.Path.{◌≡◌, sym, ◌∙◌}
-use native.Mathlib.Omega.{arith}
-use borrow.Author.Rules.{rules}
+use mathlib.Core.Path.{◌≡◌}
 use Rattle.protection.proofs.configs.unpack.Given as goal
 
 abbrev pub invariant-loop-i : goal.invariant-loop-i

@@ -1,13 +1,9 @@
-use Prim.Native.Nat.{◌+◌, ◌-◌, ◌≤◌}
-use mathlib.Core.Path.{◌≡◌, refl, ap, ◌∙◌}
-use mathlib.Core.Bool.{Bool, ◌&&◌}
-use native.Mathlib.Omega.{arith}
-use lib.ListN.{length, get_or, drop}
-use borrow.Author.Rules.{rules}
+use Prim.Native.Nat.{◌-◌, ◌≤◌}
+use mathlib.Core.Path.{◌≡◌}
+use mathlib.Core.Bool.{◌&&◌}
+use lib.ListN.{length, drop}
 use Rattle.bits.specs.Lists.{all}
-use Rattle.bits.proofs.ListLaws.{all_next, all_end}
 use Rattle.protection.specs.Hold.{address_holdable}
-use Rattle.protection.proofs.HeldWords.{or_below}
 use Rattle.protection.proofs.hold.addresses_can_hold.Given as goal
 
 abbrev pub invariant-loop-i : goal.invariant-loop-i

@@ -1,4 +1,3 @@
-use borrow.Author.Rules.{rules}
 use Rattle.bits.proofs.ListLaws.{all_append}
 use Rattle.protection.specs.Configs.{unpacked, configs_of}
 use Rattle.protection.specs.Hold.{config_holdable}

@@ -1,5 +1,4 @@
 use lib.ListN.{replicate}
-use borrow.Author.Rules.{rules}
 use Rattle.protection.proofs.hold.reset.Goals as goal
 
 pub returns : goal.returns

@@ -1,4 +1,3 @@
-use borrow.Author.Rules.{rules}
 use Rattle.protection.specs.Same.{same_pmp}
 use Rattle.protection.proofs.hold.same.Goals as goal
 

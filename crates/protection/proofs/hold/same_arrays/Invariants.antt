@@ -1,11 +1,8 @@
 use Prim.Native.Nat.{◌-◌, ◌≤◌}
-use mathlib.Core.Path.{◌≡◌, refl, sym, ◌∙◌}
+use mathlib.Core.Path.{◌≡◌}
 use mathlib.Core.Bool.{◌&&◌}
-use native.Mathlib.Omega.{arith}
 use lib.ListN.{drop}
-use borrow.Author.Rules.{rules}
 use Rattle.bits.specs.Same.{same_list}
-use Rattle.bits.proofs.SameLaws.{same_more, same_all}
 use Rattle.protection.proofs.hold.same_arrays.Given as goal
 
 abbrev pub invariant-loop-i : goal.invariant-loop-i

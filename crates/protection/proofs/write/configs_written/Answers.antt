@@ -1,8 +1,5 @@
-use Prim.Native.Nat.{◌+◌, ◌≤◌}
-use mathlib.Core.Path.{◌≡◌, sym, ◌∙◌}
+use mathlib.Core.Path.{sym, ◌∙◌}
 use native.Mathlib.Omega.{arith}
-use borrow.Author.Rules.{rules}
-use Rattle.protection.specs.Write.{configs_written}
 use Rattle.protection.proofs.WriteLoop.{configs_next, configs_end}
 use Rattle.protection.proofs.write.configs_written.Goals as goal
 

@@ -1,9 +1,6 @@
 use Prim.Native.Nat.{◌+◌, ◌≤◌}
-use mathlib.Core.Path.{◌≡◌, sym, ◌∙◌}
-use native.Mathlib.Omega.{arith}
-use borrow.Author.Rules.{rules}
+use mathlib.Core.Path.{◌≡◌}
 use Rattle.protection.specs.Write.{configs_written}
-use Rattle.protection.proofs.WriteLoop.{configs_next, configs_end}
 use Rattle.protection.proofs.write.configs_written.Given as goal
 
 abbrev pub invariant-loop-left : goal.invariant-loop-left

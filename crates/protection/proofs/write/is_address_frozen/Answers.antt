@@ -1,4 +1,3 @@
-use borrow.Author.Rules.{rules}
 use Rattle.protection.proofs.write.is_address_frozen.Goals as goal
 
 pub returns : goal.returns

@@ -2,8 +2,6 @@ use Prim.Native.Nat.{ℕ}
 use mathlib.Core.Path.{◌≡◌, sym, ap, ◌∙◌}
 use mathlib.Core.List.{List}
 use native.Mathlib.Omega.{arith}
-use borrow.Author.Tests.{ne_eqb, le-leb, lt-leb}
-use borrow.Author.Rules.{rules}
 use Rattle.protection.specs.Write.{configs_written, pmp_written}
 use Rattle.std.proofs.lemmas.Grind.{common_steps}
 use Rattle.protection.proofs.write.write_register.Goals as goal
@@ -32,7 +30,6 @@ returns-else-grain-eq0 c = rw (c.in-928.is, c.configs_written-w-in-928.ensures)
 pub returns-else-grain-eq0-2 : goal.returns-else-grain-eq0-2
 unfolding pmp_written
 returns-else-grain-eq0-2 c = rw (c.in-930.is, c.configs_written-w-in-930.ensures)
-
 
 pub returns-in-944-to-959 : goal.returns-in-944-to-959
 unfolding pmp_written

@@ -1,5 +1,4 @@
 use borrow.Author.Tests.{eq-eqb, ne_eqb}
-use borrow.Author.Rules.{rules}
 use Rattle.registers.proofs.effective.data_mode.Goals as goal
 
 pub returns-then-r-eq1 : goal.returns-then-r-eq1

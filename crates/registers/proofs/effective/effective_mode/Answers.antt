@@ -1,4 +1,3 @@
-use borrow.Author.Rules.{rules}
 use Rattle.registers.proofs.effective.effective_mode.Goals as goal
 
 pub returns-in-Fetch : goal.returns-in-Fetch

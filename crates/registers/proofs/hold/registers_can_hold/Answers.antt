@@ -1,4 +1,3 @@
-use borrow.Author.Rules.{rules}
 use Rattle.registers.specs.Hold.{registers_holdable}
 use Rattle.registers.proofs.hold.registers_can_hold.Goals as goal
 

@@ -1,4 +1,3 @@
-use borrow.Author.Rules.{rules}
 use Rattle.registers.proofs.level.level_registers.Goals as goal
 
 pub returns-in-Supervisor : goal.returns-in-Supervisor

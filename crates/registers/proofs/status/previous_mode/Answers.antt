@@ -1,4 +1,3 @@
-use borrow.Author.Rules.{rules}
 use Rattle.registers.proofs.status.previous_mode.Goals as goal
 
 pub returns-in-Supervisor : goal.returns-in-Supervisor

@@ -1,7 +1,6 @@
 -- The numbers from a place on decide what is left to decide.
-use Rattle.std.proofs.Common.{◌≡◌, ◌-◌, ◌≤◌, length, drop, sym, refl, ◌∙◌, arith, rules, le-leb}
+use Rattle.std.proofs.Common.{sym, refl, ◌∙◌, arith, rules, le-leb}
 use borrow.Author.Tests.{lt-leb}
-use Rattle.steps.specs.Decode.{name_steps}
 use Rattle.steps.proofs.NumberLaws.{named_next, named_end}
 use Rattle.steps.proofs.from_numbers.name_steps.Goals as goal
 

@@ -1,8 +1,6 @@
 -- The numbers from a place on decide what is left to decide.
-use Rattle.std.proofs.Common.{◌≡◌, ◌-◌, ◌≤◌, length, drop, sym, refl, ◌∙◌, arith, rules, le-leb}
-use borrow.Author.Tests.{lt-leb}
+use Rattle.std.proofs.Common.{◌≡◌, ◌-◌, ◌≤◌, length, drop}
 use Rattle.steps.specs.Decode.{name_steps}
-use Rattle.steps.proofs.NumberLaws.{named_next, named_end}
 use Rattle.steps.proofs.from_numbers.name_steps.Given as goal
 
 abbrev pub invariant-loop-at : goal.invariant-loop-at

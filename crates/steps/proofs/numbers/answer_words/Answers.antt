@@ -1,4 +1,3 @@
-use Rattle.std.proofs.Common.{rules}
 use Rattle.steps.proofs.numbers.answer_words.Goals as goal
 
 pub returns-in-DoneValue : goal.returns-in-DoneValue
