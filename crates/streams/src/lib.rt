@@ -1,12 +1,23 @@
-// Reading and writing whole buffers, in as many calls as the system takes, and telling what went wrong.
+// Reading and writing whole buffers, in as many calls as the system takes; files and arguments by their bytes; and telling what went wrong.
 #![tactic(auto)]
 
+ghost use Rattle.std.specs.Prelude.{◌≤◌, length, IfSome};
 ghost use Rattle.streams.specs.Transfers.{Filled, Written};
 
 use arrayvec::ArrayString;
+use std::env::{Env, FillError};
 use std::fmt::Write;
+use std::fs::File;
 use std::io;
 use std::io::{Print, Read};
+use std::str::from_utf8;
+
+// Linux's numbers of what is told of a name: a NUL in it, too many bytes, and bytes that are not UTF-8.
+const INVALID: i32 = 22;
+
+const TOO_LONG: i32 = 36;
+
+const NOT_TEXT: i32 = 84;
 
 // The bytes that were moved, and whether a call failed, with what the system said of it.
 #[derive(Clone, Copy)]
@@ -86,4 +97,39 @@ pub fn fail(rt: HostRuntime, what: &[u8], error: Option<io::Error>) {
     let _ = err.write_all(b": ");
     let _ = err.write_all(words.as_bytes());
     let _ = err.write_all(b"\n");
+}
+
+// Opens a file for reading by the bytes of its path.
+pub fn open(rt: HostRuntime, path: &[u8]) -> io::Result<File> {
+    if path.len() >= 4096 {
+        return Err(io::Error::from_raw_os_error(TOO_LONG));
+    }
+    if path.contains(&0) {
+        return Err(io::Error::from_raw_os_error(INVALID));
+    }
+    match from_utf8(path) {
+        Ok(path) => File::open(&rt, path),
+        Err(_) => Err(io::Error::from_raw_os_error(NOT_TEXT)),
+    }
+}
+
+// Whether the program has an argument at a place, of which the first is 1.
+pub fn has_argument(rt: HostRuntime, place: usize) -> bool {
+    match rt.arg(place, &mut []) {
+        Err(FillError::NotPresent) => false,
+        _ => true,
+    }
+}
+
+// Puts an argument at the front of the buffer: its length. One that is missing or too long is told by its name.
+pub fn argument(rt: HostRuntime, place: usize, name: &[u8], buffer: &mut [u8]) -> Option<usize>
+    ensures { IfSome result (λ n. n ≤ length buffer.new) }
+{
+    let number = match rt.arg(place, buffer) {
+        Ok(n) => return Some(n),
+        Err(FillError::TooLong) => TOO_LONG,
+        Err(FillError::NotPresent) => INVALID,
+    };
+    fail(rt, name, Some(io::Error::from_raw_os_error(number)));
+    None
 }
