@@ -1,4 +1,6 @@
 // Words as sets of bits. The laws of masks, tests, lists and folds, which the layers above cite, stand in proofs/.
+#![tactic(auto)]
+
 ghost use Rattle.std.specs.Prelude.{◌≡◌};
 ghost use Rattle.bits.specs.Mask.{test_bit};
 

@@ -1,5 +1,7 @@
 // The interface for C: harts, maps, steps and answers as 43, 100, three and four words. A call whose slices have another length changes nothing. A memory
 // of page tables is words that stand at a physical address; it may have any length.
+#![tactic(auto)]
+
 mod feeding;
 mod maps;
 mod query;

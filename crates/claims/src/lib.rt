@@ -1,4 +1,6 @@
 // The claims about the whole hart, and functions whose contracts say them of the program.
+#![tactic(auto)]
+
 mod after_run;
 mod saved;
 

@@ -1,4 +1,6 @@
 // Control and status registers but those of protection: who may access which, what a read gives, and what a write stores.
+#![tactic(auto)]
+
 mod operation;
 mod permit;
 mod show;

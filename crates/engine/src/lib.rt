@@ -1,4 +1,6 @@
 // The steps of a hart on its 43 words, changed in place. Whether a hart can hold the state is judged once, and carried from step to step.
+#![tactic(auto)]
+
 use steps::Answer;
 
 mod access;
@@ -12,7 +14,7 @@ pub use taking::step;
 
 // What is told of a step besides the words that it leaves: its answer, whether a hart can hold what is left, and whether the map has to be compiled
 // anew.
-#[derive(Drop)]
+#[derive(Clone, Copy)]
 pub struct Taken {
     pub answer: Answer,
     pub held: bool,
@@ -20,7 +22,7 @@ pub struct Taken {
 }
 
 // The same where the answer is written away: whether a hart can hold what is left, and whether the map has to be compiled anew.
-#[derive(Drop)]
+#[derive(Clone, Copy)]
 pub struct Told {
     pub held: bool,
     pub remap: bool,

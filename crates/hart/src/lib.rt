@@ -1,4 +1,6 @@
 // A hart: the state and the map of its protection registers go in, and both come back with the answer.
+#![tactic(auto)]
+
 use map::Map;
 use state::State;
 use steps::Answer;
@@ -11,13 +13,13 @@ pub use saved::convert;
 pub use stepping::map_for;
 
 // The hart struct, on which the steps are methods. Its state may be one that no hart can hold, and is then refused.
-#[derive(Drop)]
+#[derive(Clone, Copy)]
 pub struct Hart {
     pub state: State,
 }
 
 // What a step hands back.
-#[derive(Drop)]
+#[derive(Clone, Copy)]
 pub struct Stepped {
     pub hart: Hart,
     pub map: Map,
@@ -25,7 +27,7 @@ pub struct Stepped {
 }
 
 // A hart with a map.
-#[derive(Drop)]
+#[derive(Clone, Copy)]
 pub struct Mapped {
     pub hart: Hart,
     pub map: Map,

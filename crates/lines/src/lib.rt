@@ -1,4 +1,6 @@
 // Texts of lines, each a key, `=`, sixteen hexadecimal digits and a line feed: words are written to given places, and lines are read.
+#![tactic(auto)]
+
 ghost use Rattle.std.specs.Prelude.{◌≡◌, ◌+◌, ◌≤◌, ◌%◌, length, get_or};
 ghost use Rattle.std.proofs.lemmas.List.Edits.{sets};
 ghost use Rattle.lines.specs.Lines.{hex_digit, hex_digits, digit_value};
@@ -6,7 +8,7 @@ ghost use Rattle.lines.specs.Places.{has_room, with_word, with_words};
 ghost use Rattle.lines.specs.Fields.{has_key, word_at, line_at};
 
 // A word that is read, and whether what was read is in the form.
-#[derive(Drop)]
+#[derive(Clone, Copy)]
 pub struct Field {
     pub ok: bool,
     pub word: u64,

@@ -1,4 +1,6 @@
 // The protection map: at most 33 ranges of bytes, each with the lowest entry that matches its bytes, and access queries on it.
+#![tactic(auto)]
+
 mod pass;
 mod queries;
 
@@ -13,7 +15,7 @@ use pmp::TOP;
 pub use queries::{query, query_words};
 
 // The bytes from `first` to `last`, both included. The owner is an entry, 0 to 15, or 16 for none; any number can be given.
-#[derive(Drop)]
+#[derive(Clone, Copy)]
 pub struct Range {
     pub first: u64,
     pub last: u64,
@@ -21,7 +23,7 @@ pub struct Range {
 }
 
 // The first `count` ranges are the map; a count above 33 is read as 33.
-#[derive(Drop)]
+#[derive(Clone, Copy)]
 pub struct Map {
     pub count: u64,
     pub ranges: [Range; 33],
@@ -29,7 +31,7 @@ pub struct Map {
 
 // What has been read of an access in one pass over a map's ranges: the bytes still unread, a bit for each from the first byte up, and the lowest and
 // the highest owner read.
-#[derive(Drop)]
+#[derive(Clone, Copy)]
 pub(crate) struct Reading {
     unread: u64,
     low: u64,

@@ -1,9 +1,11 @@
 // The text of a memory: a line of 22 bytes for the address of its first word, then one for each word.
+#![tactic(auto)]
+
 ghost use Rattle.std.specs.Prelude.{◌≡◌, ◌≤◌, length};
 ghost use Rattle.memory_text.specs.MemoryText.{is_memory_text, read_memory, stored_in};
 
 // What is read of a text: zeros where it is not ok.
-#[derive(Drop)]
+#[derive(Clone, Copy)]
 pub struct Reading {
     pub ok: bool,
     pub base: u64,

@@ -1,4 +1,6 @@
 // Sv39: virtual addresses under the protection rule.
+#![tactic(auto)]
+
 mod access;
 mod entry;
 mod memory;
@@ -11,7 +13,7 @@ use pmp::{Access, Mode};
 pub use satp::{satp_can_hold, satp_written};
 
 // What an access asks by, which stays the same through its walk.
-#[derive(Drop)]
+#[derive(Clone, Copy)]
 pub struct Context {
     pub satp: u64,
     pub mstatus: u64,
@@ -20,7 +22,7 @@ pub struct Context {
 }
 
 // What an access comes to: granted with the deciding entry; a fault with its cause, trap value and deciding entry; or a refusal. Entry 16 is none.
-#[derive(Drop)]
+#[derive(Clone, Copy)]
 pub enum Reached {
     Granted(u8),
     Fault(u64, u64, u8),
@@ -28,14 +30,14 @@ pub enum Reached {
 }
 
 // A word of a page table, or the entry that denied it.
-#[derive(Drop)]
+#[derive(Clone, Copy)]
 pub(crate) enum Word {
     Read(u64),
     Denied(u8),
 }
 
 // Where a walk ends: at a physical address, with a page fault, or with an access fault and the deciding entry.
-#[derive(Drop)]
+#[derive(Clone, Copy)]
 pub(crate) enum Walked {
     At(u64),
     PageFault,
@@ -43,14 +45,14 @@ pub(crate) enum Walked {
 }
 
 // What an entry of a page table says: the next table, or the walk's end.
-#[derive(Drop)]
+#[derive(Clone, Copy)]
 pub(crate) enum Found {
     Table(u64),
     Ends(Walked),
 }
 
 // What the byte rule is asked.
-#[derive(Drop)]
+#[derive(Clone, Copy)]
 pub(crate) struct Check {
     pub(crate) mode: Mode,
     pub(crate) access: Access,

@@ -1,4 +1,6 @@
 // Physical memory protection: what the sixteen entries say of an access, byte by byte.
+#![tactic(auto)]
+
 mod entry;
 mod modes;
 mod rule;
@@ -9,7 +11,7 @@ pub use modes::{is_mode, mode_of};
 pub use rule::{byte_rule, check, fault_cause, is_size, owner_decides};
 
 // A privilege mode, of the hart or in effect for an access.
-#[derive(Drop)]
+#[derive(Clone, Copy)]
 pub enum Mode {
     User,
     Supervisor,
@@ -17,7 +19,7 @@ pub enum Mode {
 }
 
 // What an access does with its bytes.
-#[derive(Drop)]
+#[derive(Clone, Copy)]
 pub enum Access {
     Fetch,
     Load,
@@ -26,7 +28,7 @@ pub enum Access {
 
 // What is decided of an access: it is granted by an entry, or faults with an exception's cause by an entry, or the call is refused with its number.
 // An entry is 0 to 15, or 16 where none decided.
-#[derive(Drop)]
+#[derive(Clone, Copy)]
 pub enum Decision {
     Granted(u8),
     Fault(u64, u8),
@@ -34,14 +36,14 @@ pub enum Decision {
 }
 
 // The bytes from `low` up to but not including `high`.
-#[derive(Drop)]
+#[derive(Clone, Copy)]
 pub struct Span {
     pub low: u64,
     pub high: u64,
 }
 
 // The entry that a search yields, with its configuration byte and the bytes that it matches; entry 16 where there is none.
-#[derive(Drop)]
+#[derive(Clone, Copy)]
 pub(crate) struct Found {
     entry: usize,
     cfg: u8,

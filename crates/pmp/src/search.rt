@@ -8,7 +8,7 @@ use crate::entry::{contains, entry_span, napot_span, ones_read, zeros_read};
 use crate::{Found, Span};
 
 // The bytes of an entry, where some of those from its first to its last are the access's too.
-#[derive(Drop)]
+#[derive(Clone, Copy)]
 struct Overlap {
     some: bool,
     span: Span,

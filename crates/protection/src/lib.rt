@@ -1,4 +1,6 @@
 // The protection registers: their bytes and words, what a hart can hold of them, reads, locks and writes.
+#![tactic(auto)]
+
 mod configs;
 mod hold;
 mod read;
@@ -10,7 +12,7 @@ pub use read::{is_pmp, read_register};
 pub use write::write_register;
 
 // A configuration byte and an address register for each entry, and the grain. It comes last, so that the arrays lie at multiples of sixteen bytes.
-#[derive(Drop)]
+#[derive(Clone, Copy)]
 pub struct Pmp {
     pub cfgs: [u8; 16],
     pub addrs: [u64; 16],

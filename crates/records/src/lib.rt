@@ -1,11 +1,13 @@
 // Records of a trace: the text of a step.
+#![tactic(auto)]
+
 ghost use Rattle.std.specs.Prelude.{◌≡◌};
 ghost use Rattle.records.specs.Records.{read_record, ignores_first, ignores_second, unused_are_zero, record_step, naming, read_numbers};
 
 use steps::Decoded;
 
 // The three words of a record.
-#[derive(Drop)]
+#[derive(Clone, Copy)]
 pub enum Record {
     Words(u64, u64, u64),
     Broken,

@@ -1,4 +1,6 @@
 // The registers of a hart but those of protection, each as a raw number: a value that no hart can hold can be given, and is refused.
+#![tactic(auto)]
+
 mod effective;
 pub mod fields;
 mod hold;
@@ -12,7 +14,7 @@ pub use level::{level_registers, with_level_registers};
 pub use status::{pending_interrupts, previous_mode};
 
 // The trap registers, which both levels have: mtvec and stvec, mcounteren and scounteren, and so on.
-#[derive(Drop)]
+#[derive(Clone, Copy)]
 pub struct LevelRegisters {
     pub tvec: u64,
     pub counteren: u64,
@@ -23,7 +25,7 @@ pub struct LevelRegisters {
 }
 
 // `mip` holds the software bits only; `lines` are the interrupt lines from outside.
-#[derive(Drop)]
+#[derive(Clone, Copy)]
 pub struct Interrupts {
     pub mideleg: u64,
     pub mie: u64,
@@ -31,14 +33,14 @@ pub struct Interrupts {
     pub lines: u64,
 }
 
-#[derive(Drop)]
+#[derive(Clone, Copy)]
 pub struct Counters {
     pub mcountinhibit: u64,
     pub mcycle: u64,
     pub minstret: u64,
 }
 
-#[derive(Drop)]
+#[derive(Clone, Copy)]
 pub struct Registers {
     pub mode: u64,
     pub pc: u64,

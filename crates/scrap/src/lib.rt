@@ -1,19 +1,20 @@
-// A scrap of a trace together with the place of the next record in it. `record_at`, which parses the record there, is covered; the functions over a `Scrap` are
-// thin, and their proofs go by hand.
+// A scrap of a trace together with the place of the next record in it. `record_at` parses the record there; the functions over a `Scrap` are thin.
+#![tactic(auto)]
+
 ghost use Rattle.std.specs.Prelude.{◌≡◌};
 ghost use Rattle.scrap.specs.Places.{numbers_behind, record_at};
 
 use records::Record;
 
 // The bytes that were lent, and the place of the next record in them.
-#[derive(Drop)]
+#[derive(Clone, Copy)]
 pub struct Scrap<'a> {
     pub bytes: &'a [u8],
     pub at: usize,
 }
 
 // The numbers of a record, if they name a step, and the place behind it.
-#[derive(Drop)]
+#[derive(Clone, Copy)]
 pub struct Numbers {
     pub named: bool,
     pub step: u64,
@@ -70,7 +71,7 @@ pub fn next<'a>(scrap: Scrap<'a>) -> Numbers
     record_at(scrap.bytes, scrap.at)
 }
 
-// The same for bytes and a place apart: whoever calls it needs no proof by hand, so that a loop over records can stand above it.
+// The same for bytes and a place apart, for a loop over records.
 pub fn read(bytes: &[u8], at: usize) -> Numbers
     ensures { result ≡ record_at bytes.now at }
 {

@@ -1,4 +1,6 @@
 // All registers of a hart, and the 43 words in which they lie.
+#![tactic(auto)]
+
 use protection::Pmp;
 use registers::Registers;
 
@@ -15,7 +17,7 @@ pub use words::{
 };
 
 // Every register as a raw number: it can hold what no hart can, and is then refused.
-#[derive(Drop)]
+#[derive(Clone, Copy)]
 pub struct State {
     pub registers: Registers,
     pub pmp: Pmp,

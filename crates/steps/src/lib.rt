@@ -1,4 +1,6 @@
 // What a hart can be asked to do, and what it answers.
+#![tactic(auto)]
+
 use pmp::Access;
 
 mod from_numbers;
@@ -8,7 +10,7 @@ pub use from_numbers::{decode, name_steps, names_access};
 pub use numbers::{answer_words, level_number, refusal_of};
 
 // What a CSR step does. `Read` is no write attempt; the other three are, even with operand 0.
-#[derive(Drop)]
+#[derive(Clone, Copy)]
 pub enum Operation {
     Write,
     Set,
@@ -17,7 +19,7 @@ pub enum Operation {
 }
 
 // The steps that concern the registers alone, and none of protection.
-#[derive(Drop)]
+#[derive(Clone, Copy)]
 pub enum Event {
     Raise(u64, u64),
     Lines(u64),
@@ -33,7 +35,7 @@ pub enum Event {
 
 // The eighteen steps in four families. A CSR step has its number and operand, an access its address and size; what a step does not name is
 // ignored.
-#[derive(Drop)]
+#[derive(Clone, Copy)]
 pub enum Step {
     Reset,
     Csr(Operation, u64, u64),
@@ -42,21 +44,21 @@ pub enum Step {
 }
 
 // The step that three numbers name, if they name one.
-#[derive(Drop)]
+#[derive(Clone, Copy)]
 pub enum Decoded {
     Formed(Step),
     Nothing,
 }
 
 // A level that traps are taken to.
-#[derive(Drop)]
+#[derive(Clone, Copy)]
 pub enum Level {
     Supervisor,
     Machine,
 }
 
 // What a trap is taken for: an exception's cause, or an interrupt's number.
-#[derive(Drop)]
+#[derive(Clone, Copy)]
 pub enum Trap {
     Exception(u64),
     Interrupt(u64),
@@ -64,7 +66,7 @@ pub enum Trap {
 
 // What a step answers. `DoneValue` is a CSR step's old value, `DoneFlag` a yes or no. A grant and a trap have the entry that decided on the access, and
 // `pmp::NONE` where none did, as at a trap that comes from no access. The entry is a byte, so that it lies beside the level and makes no answer larger.
-#[derive(Drop)]
+#[derive(Clone, Copy)]
 pub enum Answer {
     Done,
     DoneValue(u64),

@@ -1,8 +1,8 @@
 -- The two forms: their texts compute with the words as variables, and what the program does with the text of zeros follows.
 use Prim.Native.Nat.{ℕ, ◌+◌, ◌-◌, ◌≤◌, ◌<◌}
 use mathlib.Core.Path.{◌≡◌, refl, sym, ap, ◌∙◌}
-use mathlib.Core.Bool.{Bool, true, false, cond, ◌&&◌, and_assoc, and-true}
-use mathlib.Core.List.{List, [], ◌∷◌, ◌++◌, append_assoc}
+use mathlib.Core.Bool.{Bool, true, cond, ◌&&◌, and_assoc, and-true}
+use mathlib.Core.List.{List, [], ◌++◌, append_assoc}
 use native.Mathlib.Omega.{arith}
 use native.Mathlib.Numerals.{add-one}
 use borrow.Author.Tests.{le-leb, leb-true}
@@ -97,12 +97,10 @@ module _ (form : Form) (ws b u x : List ℕ) {n s : ℕ} (i : n ≡ head_length 
   abbrev rest : List ℕ
   rest = drop (length_of form) b
 
-  module _ (c : u ≡ take (length zeros) zeros ++ drop (length zeros) b) where
+  module _ (c : u ≡ zeros ++ drop s b) where
     copied : u ≡ heads ++ (lines ++ rest)
     unfolding text_of
-    copied =
-        let l : length zeros ≡ length_of form = ap length zeros_are ∙ text-length form [] in
-        c ∙ rw (take-length zeros, l, zeros_are) (append_assoc heads lines rest)
+    copied = c ∙ (λ k. zeros_are k ++ drop (j k) b) ∙ append_assoc heads lines rest
 
     lines_size : length lines ≡ s - n
     lines_size = lines-length (keys_of form) 0 [] ∙ omega (arith, i, j, keys_length form)

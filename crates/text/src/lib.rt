@@ -1,5 +1,7 @@
 // The saved text in its two forms: the 43 words of a hart as lines. The first form has 41 of them, in 1,027 bytes. The second begins with a line that tells
 // the form, and has satp and the grain too: 1,094 bytes.
+#![tactic(auto)]
+
 ghost use Rattle.std.specs.Prelude.{◌≡◌, true, ◌≤◌, length};
 ghost use Rattle.std.proofs.lemmas.List.Edits.{sets};
 ghost use Rattle.lines.specs.Fields.{all_ok, words_read};
@@ -7,7 +9,7 @@ ghost use Rattle.text.specs.Text.{length_of, head_length, line_count, has_room_f
 ghost use Rattle.text.specs.Template.{in_order, lines_by};
 
 // The forms of a text.
-#[derive(Drop)]
+#[derive(Clone, Copy)]
 pub enum Form {
     First,
     Second,
@@ -114,7 +116,7 @@ pub fn write(form: Form, words: &[u64], buffer: &mut [u8]) -> bool
     let head = head_length(form);
     let start = HEAD - head;
     let end = start + size;
-    bytes::copy(&ZEROS[start..end], buffer);
+    buffer[..size].copy_from_slice(&ZEROS[start..end]);
     let count = line_count(form);
     lines::write_words(&PLACES[0..count], words, &mut buffer[head..size]);
     true

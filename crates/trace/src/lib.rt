@@ -1,4 +1,6 @@
 // A trace: the reader of its records, cut anywhere, and the answers to them, in words or as lines; and saved texts, as programs read and write them.
+#![tactic(auto)]
+
 use hart::Hart;
 use map::Map;
 
@@ -15,7 +17,7 @@ pub use saved::write_converted;
 
 // What goes on from one scrap of a trace to the next: the bytes short of a record and their count, the number of the next record, and whether a broken
 // record has ended the reading. A count above 59 is read as 59.
-#[derive(Drop)]
+#[derive(Clone, Copy)]
 pub struct Reader {
     pub carried: [u8; 59],
     pub count: u64,
@@ -24,7 +26,7 @@ pub struct Reader {
 }
 
 // What feeding a scrap leaves, how many of its bytes were taken, and how many answers were written.
-#[derive(Drop)]
+#[derive(Clone, Copy)]
 pub struct Fed {
     pub reader: Reader,
     pub hart: Hart,
@@ -34,7 +36,7 @@ pub struct Fed {
 }
 
 // The same where the words of the hart are changed in place: how many words, or bytes of lines, were written, and whether the map has to be compiled anew.
-#[derive(Drop)]
+#[derive(Clone, Copy)]
 pub struct Progress {
     pub reader: Reader,
     pub taken: usize,
@@ -43,7 +45,7 @@ pub struct Progress {
 }
 
 // What a step leaves besides the words of the hart: whether a hart can hold them, whether it asked for a fresh map, and the place behind its answer.
-#[derive(Drop)]
+#[derive(Clone, Copy)]
 pub(crate) struct StepLeft {
     pub(crate) held: bool,
     pub(crate) remap: bool,
@@ -52,7 +54,7 @@ pub(crate) struct StepLeft {
 
 // What goes on from record to record besides the words of the hart: whether a hart can hold them, whether a step asked for a fresh map, the number of
 // the next record, whether a broken one ended the reading, and how much is written.
-#[derive(Drop)]
+#[derive(Clone, Copy)]
 pub(crate) struct Cursor {
     pub(crate) held: bool,
     pub(crate) remap: bool,
@@ -63,7 +65,7 @@ pub(crate) struct Cursor {
 
 // The record that the carried bytes begin, where the scrap completes it and there is room: its text, whether there is one (1 or 0), the place behind
 // it, and how many bytes are still carried.
-#[derive(Drop)]
+#[derive(Clone, Copy)]
 pub(crate) struct Opening {
     pub(crate) text: [u8; 60],
     pub(crate) heads: usize,
@@ -73,7 +75,7 @@ pub(crate) struct Opening {
 
 // What goes on from one piece of a trace to the next in a program: the reader with its hart and map, whether there may be more input, and the refusal of
 // the text it started from, or 0.
-#[derive(Drop)]
+#[derive(Clone, Copy)]
 pub struct Session {
     pub reader: Reader,
     pub hart: Hart,
@@ -83,7 +85,7 @@ pub struct Session {
 }
 
 // What feeding a piece leaves, and how many bytes of lines it wrote.
-#[derive(Drop)]
+#[derive(Clone, Copy)]
 pub struct Written {
     pub session: Session,
     pub filled: usize,

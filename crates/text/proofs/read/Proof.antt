@@ -1,7 +1,6 @@
-use Rattle.text.proofs.Template.{places_in, places_taken, lines-within, lines-read, length-unread}
+use Rattle.text.proofs.Template.{places_taken, lines-within, lines-read, length-unread}
 use Rattle.text.specs.Text.{Reading, first_keys, keys_of, head_of, text_of, read_as, no_text, read_text}
 use Rattle.lines.specs.Lines.{bytes_of, hex_digits, line_of, lines_of, places_of}
-use Prim.Native.Nat.{ℕ}
 use mathlib.Core.Bool.{cond, ◌&&◌}
 use mathlib.Core.Path.{◌≡◌, sym, ap, ◌∙◌}
 use native.Mathlib.Omega.{arith}
@@ -13,37 +12,37 @@ use Rattle.text.proofs.read.Tie as tie
 parts : {r s : Reading} → r ≡ s → (r.ok ≡ s.ok) × (r.words ≡ s.words)
 parts e = (ap (λ (r : Reading). r.ok) e, ap (λ (r : Reading). r.words) e)
 
-returns : tie.Need-returns
+returns : tie.Need-returns-then-text-text_length
 returns c =
     let t = c.before in
-    let a = t.before.before.before.args in
-    parts (length-unread a.form a.text.now (λ e. c.if1.true (e ∙ sym t.text-length.ensures.0)))
+    let a = t.args in
+    parts (length-unread a.form a.text.now (λ e. c.if-text-text_length.true (e ∙ sym t.text_length.ensures.0)))
 
 -- the head lies within the text
-abbrev head_read : tie.After-read-lines-arg4 → tie.After-head-length
+abbrev head_read : tie.After-read_lines-arg-4-1 → tie.After-head_length-head
 head_read c = c.before.before.before.before.before.before.before.before
 
-sub-read-lines-3 : tie.Need-overflow-sub-read-lines-3
+sub-read-lines-3 : tie.Need-slice_bounds-read_lines-count-3
 sub-read-lines-3 c =
     let h = head_read c in
-    omega (arith, h.head-length.ensures.1, h.before.if1.left, h.before.before.text-length.ensures.1)
+    omega (arith, h.head_length-head.ensures.1, h.if-text-text_length.false, h.text_length.ensures.1)
 
-part-read-lines-start-3 : tie.Need-slice-bounds-read-lines-start-3
+part-read-lines-start-3 : tie.Need-slice_bounds-read_lines-start-3
 part-read-lines-start-3 c =
     let h = head_read c in
-    omega (arith, h.head-length.ensures.1, h.before.if1.left, h.before.before.text-length.ensures.1)
+    omega (arith, h.head_length-head.ensures.1, h.if-text-text_length.false, h.text_length.ensures.1)
 
-read-lines-requires : tie.Need-read-lines-requires
+read-lines-requires : tie.Need-read_lines-lined-requires
 unfolding bytes_of first_keys keys_of places_of
 read-lines-requires c κs =
     let n = c.before.before.before.before.before.before.before.before.before in
-    lines-within n.before.before.before.before.before.before.args.form n.line-count.ensures.0
+    lines-within n.args.form n.line_count-count.ensures.0
 
 -- what is known once the lines are read
-judged : (c : tie.After-read-lines) →
+judged : (c : tie.After-read_lines-lined) →
     let k = c.before.before.before.before.before.before.before in
-    let a = k.before.before.before.before.before.before.before.before.before.args in
-    cond (k.has_key_lem.result && c.read-lines.result) (read_as c.read-lines.new.1.1.1.0) no_text ≡ read_text a.form a.text.now
+    let a = k.args in
+    cond (k.has_key-headed.result && c.read_lines-lined.result) (read_as c.read_lines-lined.new.words) no_text ≡ read_text a.form a.text.now
 unfolding bytes_of first_keys keys_of head_of hex_digits line_of lines_of text_of places_of
 judged c =
     let k = c.before.before.before.before.before.before.before in
@@ -51,16 +50,16 @@ judged c =
     let h = n.before in
     let e = h.before in
     let t = e.before in
-    let a = t.before.before.before.args in
-    let r = c.read-lines in
-    lines-read a.form a.text.now r.new.1.1.1.0 k.has_key_lem.result r.result (e.if1.false ∙ t.text-length.ensures.0)
-    h.head-length.ensures.0 (places_taken a.form n.line-count.ensures.0) k.has_key_lem.ensures r.ensures.0 r.ensures.1
+    let a = t.args in
+    let r = c.read_lines-lined in
+    lines-read a.form a.text.now r.new.words k.has_key-headed.result r.result (e.if-text-text_length.false ∙ t.text_length.ensures.0)
+    h.head_length-head.ensures.0 (places_taken a.form n.line_count-count.ensures.0) k.has_key-headed.ensures r.ensures.0 r.ensures.1
 
-returns-2 : tie.Need-returns-2
-returns-2 c = parts (rw c.if2.true at (judged c.before))
+returns-2 : tie.Need-returns-then-headed-lined
+returns-2 c = parts (rw c.if-headed-lined.true at (judged c.before))
 
-returns-3 : tie.Need-returns-3
-returns-3 c = parts (rw c.before.if2.false at (judged c.before.before))
+returns-3 : tie.Need-returns
+returns-3 c = parts (rw c.if-headed-lined.false at (judged c.before.before))
 
 pub read_spec : {M : Type 1} → statement M
 read_spec =
@@ -80,7 +79,7 @@ read_spec =
     (λ c. search rules)
     (λ c. search rules)
     (λ c. search rules)
-    (λ c. omega (arith, c.before.before.before.before.before.before.line-count.ensures.1))
+    (λ c. omega (arith, c.line_count-count.ensures.1))
     sub-read-lines-3
     part-read-lines-start-3
     (λ c. search rules)

@@ -16,8 +16,8 @@ use Rattle.map.proofs.QueryLaws.{inside_readable, beyond_unreadable, size_unread
 use Rattle.map.proofs.queries.is_readable.Statement.{statement}
 use Rattle.map.proofs.queries.is_readable.Tie as tie
 
-sized : (c : tie.Then1) → is_size c.before.before.args.size ≡ true
-sized c = sym c.before.is-size.ensures ∙ c.if1.true
+sized : (c : tie.Then-is_size) → is_size c.before.before.args.size ≡ true
+sized c = sym c.before.is_size.ensures ∙ c.if-is_size.true
 
 -- what is left of memory from the address on tells
 room : (address size : ℕ) → is_size size ≡ true → leb address (top - size) ≡ readable address size
@@ -27,16 +27,16 @@ room address size e = go (less top (address + size))
     go (inl x) = lt-leb address (top - size) (omega (arith, size_bounds size e)) ∙ sym (beyond_unreadable address size e x)
     go (inr x) = le-leb address (top - size) (omega (arith, size_bounds size e)) ∙ sym (inside_readable address size e x)
 
-sub-result : tie.Need-overflow-sub-result
+sub-result : tie.Need-overflow_sub-result
 sub-result c = omega (arith, size_bounds c.before.before.args.size (sized c))
 
-returns : tie.Need-returns
+returns : tie.Need-returns-then-is_size
 returns c = room c.before.before.args.address c.before.before.args.size (sized c)
 
-returns-2 : tie.Need-returns-2
+returns-2 : tie.Need-returns-else-is_size
 returns-2 c =
     let a = c.before.before.args in
-    c.if1.false ∙ sym (size_unreadable a.address a.size (sym c.before.is-size.ensures ∙ c.if1.false))
+    c.if-is_size.false ∙ sym (size_unreadable a.address a.size (sym c.before.is_size.ensures ∙ c.if-is_size.false))
 
-pub is-readable-spec : {M : Type 1} → statement M
-is-readable-spec = tie.close (tie.spec (λ c κs. search rules) sub-result returns returns-2)
+pub is_readable_spec : {M : Type 1} → statement M
+is_readable_spec = tie.close (tie.spec (λ c κs. search rules) sub-result returns returns-2)

@@ -17,24 +17,24 @@ use Rattle.map.proofs.ReadingLaws.{pass_next, pass_end}
 use Rattle.map.proofs.queries.read_map.Statement.{statement}
 use Rattle.map.proofs.queries.read_map.Tie as tie
 
-abbrev invariant-loop : tie.invariant-loop
+abbrev invariant-loop : tie.invariant-loop-k
 invariant-loop address size map n reading₀ k₀ reading k =
     (k ≤ n) × (n ≤ 33) × (length map.ranges ≡ 33)
     × (read_ranges address size (take n map.ranges) ≡ fold (read_range address) reading (drop k (take n map.ranges)))
 
-abbrev decreases-loop : tie.decreases-loop
+abbrev decreases-loop : tie.decreases-loop-k
 decreases-loop address size map n reading₀ k₀ reading k = n - k
 
-loop-holds : tie.Need-loop-init invariant-loop decreases-loop
-loop-holds c = (omega arith, omega (arith, c.before.count-read.ensures), search (rules, unmapped), rw c.start.ensures)
+loop-holds : tie.Need-loop-k-init invariant-loop decreases-loop
+loop-holds c = (omega arith, omega (arith, c.before.count_read-n.ensures), search (rules, unmapped), rw c.start-reading.ensures)
 
 -- there is a range more
-more : (c : tie.Then1 invariant-loop decreases-loop) → let l = c.before.before in l.loop.k < l.before.before.count-read.result
+more : (c : tie.In-loop-k invariant-loop decreases-loop) → let l = c.before.before in l.loop-k.k < l.before.before.count_read-n.result
 more c =
     let l = c.before.before in
-    ltb-true l.loop.k l.before.before.count-read.result (both _ _ c.if1.true).0
+    ltb-true l.loop-k.k l.before.before.count_read-n.result (both _ _ c.loop-k-test.true).0
 
-loop-again : tie.Need-loop-preserved invariant-loop decreases-loop
+loop-again : tie.Need-loop-k-preserved invariant-loop decreases-loop
 loop-again c =
     let t = c.before.before in
     let l = t.before.before in
@@ -42,10 +42,10 @@ loop-again c =
     let a = f.before.args in (
       omega (arith, more t),
       omega arith,
-      l.loop.invariant.2,
-      rw c.read-range.ensures
-          (l.loop.invariant.3
-          ∙ pass_next f.count-read.result l.loop.k a.t1.ranges (record { first = 0; last = 0; owner = 0 }) a.address l.loop.reading
+      l.loop-k.invariant.2,
+      rw c.read_range-reading.ensures
+          (l.loop-k.invariant.3
+          ∙ pass_next f.count_read-n.result l.loop-k.k a.map.ranges (record { first = 0; last = 0; owner = 0 }) a.address l.loop-k.reading
           (more t) (omega arith)),
     )
 
@@ -54,15 +54,15 @@ returns c =
     let l = c.before.before in
     let f = l.before.before in
     let a = f.before.args in
-    let n = f.count-read.result in
-    let none_left : ltb l.loop.k n ≡ false → drop l.loop.k (take n a.t1.ranges) ≡ [] =
-    λ e. let h = ltb-false l.loop.k n e in
-    drop_of_length-le (take n a.t1.ranges) {i = l.loop.k} (omega (arith, length-take-le n a.t1.ranges (omega arith))) in
-    rw (← f.count-read.ensures)
-    (sym (l.loop.invariant.3 ∙ pass_end a.address l.loop.reading (drop l.loop.k (take n a.t1.ranges)) (ltb l.loop.k n) none_left c.if1.false))
+    let n = f.count_read-n.result in
+    let none_left : ltb l.loop-k.k n ≡ false → drop l.loop-k.k (take n a.map.ranges) ≡ [] =
+    λ e. let h = ltb-false l.loop-k.k n e in
+    drop_of_length-le (take n a.map.ranges) {i = l.loop-k.k} (omega (arith, length-take-le n a.map.ranges (omega arith))) in
+    rw (← f.count_read-n.ensures)
+    (sym (l.loop-k.invariant.3 ∙ pass_end a.address l.loop-k.reading (drop l.loop-k.k (take n a.map.ranges)) (ltb l.loop-k.k n) none_left c.loop-k-test.false))
 
-pub read-map-spec : {M : Type 1} → statement M
-read-map-spec =
+pub read_map_spec : {M : Type 1} → statement M
+read_map_spec =
     tie.close
     (tie.spec
     invariant-loop

@@ -1,0 +1,10 @@
+use mathlib.Core.Path.{ap, ◌∙◌}
+use borrow.Author.Rules.{rules}
+use Rattle.state.specs.Hold.{can_hold}
+use Rattle.state.proofs.SliceLaws.{all-loaded}
+use Rattle.state.proofs.hold.can_hold.Goals as goal
+
+pub returns : goal.returns
+returns c =
+    let t = c in
+    c.words_can_hold.ensures ∙ ap can_hold (all-loaded t.to_words-words.result (search rules) ∙ t.to_words-words.ensures.result_value)

@@ -1,0 +1,5 @@
+use borrow.Author.Rules.{rules}
+use Rattle.state.proofs.hold.reset.Goals as goal
+
+pub returns : goal.returns
+returns c = λ j. record { registers = c.reset_registers-registers.ensures j; pmp = c.reset-pmp.ensures j; satp = 0 }
