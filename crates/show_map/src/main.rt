@@ -94,9 +94,33 @@ fn show_nested(rt: &impl Print) -> io::Result<()> {
     let map = map::compile(0, cfgs, addrs);
     show_map(rt, map)?;
     show_query(rt, cfgs, map, pmp::Mode::Machine, pmp::Access::Load, 8, 8)?;
-    show_query(rt, cfgs, map, pmp::Mode::Supervisor, pmp::Access::Load, 8, 4)?;
-    show_query(rt, cfgs, map, pmp::Mode::Supervisor, pmp::Access::Load, 0xc, 4)?;
-    show_query(rt, cfgs, map, pmp::Mode::Machine, pmp::Access::Store, 0xc, 4)?;
+    show_query(
+        rt,
+        cfgs,
+        map,
+        pmp::Mode::Supervisor,
+        pmp::Access::Load,
+        8,
+        4,
+    )?;
+    show_query(
+        rt,
+        cfgs,
+        map,
+        pmp::Mode::Supervisor,
+        pmp::Access::Load,
+        0xc,
+        4,
+    )?;
+    show_query(
+        rt,
+        cfgs,
+        map,
+        pmp::Mode::Machine,
+        pmp::Access::Store,
+        0xc,
+        4,
+    )?;
     show_query(rt, cfgs, map, pmp::Mode::User, pmp::Access::Store, 0x10, 8)?;
     show_query(rt, cfgs, map, pmp::Mode::User, pmp::Access::Fetch, 0x10, 4)?;
     show_query(
@@ -109,7 +133,15 @@ fn show_nested(rt: &impl Print) -> io::Result<()> {
         4,
     )?;
     show_query(rt, cfgs, map, pmp::Mode::User, pmp::Access::Load, 0x1000, 1)?;
-    show_query(rt, cfgs, map, pmp::Mode::Machine, pmp::Access::Fetch, 0x1000, 4)?;
+    show_query(
+        rt,
+        cfgs,
+        map,
+        pmp::Mode::Machine,
+        pmp::Access::Fetch,
+        0x1000,
+        4,
+    )?;
     show_query(
         rt,
         cfgs,
