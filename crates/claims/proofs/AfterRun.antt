@@ -71,8 +71,8 @@ module _ (h : Hart) (map : Map) (m : Memory) (numbers : List ℕ) {w : List ℕ}
   remap_is : r ≡ any_remaps h.state (steps_in m numbers)
   remap_is = er ∙ leaves.1
 
-  pub left_by : (b : Bool) → r ≡ b → {n : Map} → n ≡ cond b (map_for s.pmp) map → with (hart_with s) n ≡ left_by h map (steps_in m numbers)
-  left_by b e p =
+  pub left_by_lem : (b : Bool) → r ≡ b → {n : Map} → n ≡ cond b (map_for s.pmp) map → with (hart_with s) n ≡ left_by h map (steps_in m numbers)
+  left_by_lem b e p =
       (λ j. with (hart_with (state_is j)) ((p ∙ (λ i. cond ((sym e ∙ remap_is) i) (map_for (state_is i).pmp) map)) j))
       ∙ sym (left_is (steps_in m numbers) h map)
 
