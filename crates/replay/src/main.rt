@@ -2,31 +2,29 @@
 // file MEMORY for page tables, or none.
 #![tactic(auto)]
 
-use libc::{STDERR_FILENO, STDIN_FILENO, STDOUT_FILENO};
+use std::io;
 
-fn usage(fd: i32) {
-    io::write_all(fd, b"usage: replay [START] [MEMORY] <TRACE\n");
-    io::write_all(
-        fd,
+fn usage(to: &impl Print) -> io::Result<()> {
+    to.write_all(b"usage: replay [START] [MEMORY] <TRACE\n")?;
+    to.write_all(
         b"Replays a trace from the saved text, of either form, in the file START, or from reset, with\n",
-    );
-    io::write_all(
-        fd,
+    )?;
+    to.write_all(
         b"the words in the file MEMORY for page tables, or none. Either may be `-`, for no file.\n",
-    );
-    io::write_all(
-        fd,
+    )?;
+    to.write_all(
         b"Output is whole if its last line is `left N`, or `refused 4` or `refused 5` alone.\n",
-    );
+    )
 }
 
 // Tells what is wrong with the arguments. Nothing goes to standard output.
-fn wrong(what: &[u8], argument: &[u8]) {
-    io::write_all(STDERR_FILENO, b"replay: ");
-    io::write_all(STDERR_FILENO, what);
-    io::write_all(STDERR_FILENO, argument);
-    io::write_all(STDERR_FILENO, b"\n");
-    usage(STDERR_FILENO);
+fn wrong(rt: HostRuntime, what: &[u8], argument: &[u8]) -> io::Result<()> {
+    let err = rt.stderr();
+    err.write_all(b"replay: ")?;
+    err.write_all(what)?;
+    err.write_all(argument)?;
+    err.write_all(b"\n")?;
+    usage(&err)
 }
 
 // `-` alone is no option.
@@ -34,49 +32,47 @@ fn is_option(argument: &[u8]) -> bool {
     1 < argument.len() && argument[0] == b'-'
 }
 
-fn with_arguments(start: &[u8], memory: &[u8]) {
-    if check::same(start, b"--help") {
-        usage(STDOUT_FILENO);
+fn with_arguments(rt: HostRuntime, start: &[u8], memory: &[u8]) -> io::Result<()> {
+    if start == b"--help".as_slice() {
+        usage(&rt)
     } else if is_option(start) {
-        wrong(b"unknown option ", start);
+        wrong(rt, b"unknown option ", start)
     } else if is_option(memory) {
-        wrong(b"unknown option ", memory);
+        wrong(rt, b"unknown option ", memory)
     } else {
-        replay_stream::from_paths(start, memory, STDIN_FILENO);
+        replay_stream::from_paths(rt, start, memory, &mut rt.stdin());
+        Ok(())
     }
 }
 
-fn read_memory(start: &[u8]) {
-    let mut memory = io::buffer();
-    let n = os::arg(2, &mut memory);
-    if os::errno() != 0 {
-        os::fail(b"MEMORY");
-        return;
-    }
-    with_arguments(start, &memory[..n]);
-}
-
-fn read_arguments(count: usize) {
-    let mut start = io::buffer();
-    let n = os::arg(1, &mut start);
-    if os::errno() != 0 {
-        os::fail(b"START");
-        return;
-    }
-    if 2 < count {
-        read_memory(&start[..n]);
-    } else {
-        with_arguments(&start[..n], b"-");
+fn read_memory(rt: HostRuntime, start: &[u8]) -> io::Result<()> {
+    let mut memory = [0u8; 4096];
+    match streams::argument(rt, 2, b"MEMORY", &mut memory) {
+        Some(n) => with_arguments(rt, start, &memory[..n]),
+        None => Ok(()),
     }
 }
 
-fn main() {
-    let count = os::arg_count();
-    if 3 < count {
-        wrong(b"too many arguments", b"");
-    } else if 1 < count {
-        read_arguments(count);
+fn read_arguments(rt: HostRuntime) -> io::Result<()> {
+    let mut start = [0u8; 4096];
+    match streams::argument(rt, 1, b"START", &mut start) {
+        Some(n) => {
+            if streams::has_argument(rt, 2) {
+                read_memory(rt, &start[..n])
+            } else {
+                with_arguments(rt, &start[..n], b"-")
+            }
+        }
+        None => Ok(()),
+    }
+}
+
+fn main(rt: HostRuntime) -> io::Result<()> {
+    if streams::has_argument(rt, 3) {
+        wrong(rt, b"too many arguments", b"")
+    } else if streams::has_argument(rt, 1) {
+        read_arguments(rt)
     } else {
-        with_arguments(b"-", b"-");
+        with_arguments(rt, b"-", b"-")
     }
 }

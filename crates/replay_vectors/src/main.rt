@@ -1,33 +1,46 @@
 // Replays stored traces: for each three arguments, START, MEMORY and TRACE, the name of the trace and what replay writes. `-` is no START, or no MEMORY.
 #![tactic(auto)]
 
-use libc::STDOUT_FILENO;
+ghost use Rattle.std.specs.Prelude.{◌≤◌, length};
 
-fn replay(start: &[u8], memory: &[u8], trace: &[u8]) {
-    io::write_all(STDOUT_FILENO, trace);
-    io::write_all(STDOUT_FILENO, b"\n");
-    let fd = os::open_read(trace);
-    if fd < 0 {
-        os::fail(trace);
-        return;
+use std::env::Env;
+use std::io;
+
+fn replay(rt: HostRuntime, start: &[u8], memory: &[u8], trace: &[u8]) -> io::Result<()> {
+    rt.write_all(trace)?;
+    rt.write_all(b"\n")?;
+    match streams::open(rt, trace) {
+        Ok(mut file) => {
+            replay_stream::from_paths(rt, start, memory, &mut file);
+        }
+        Err(error) => streams::fail(rt, trace, Some(error)),
     }
-    replay_stream::from_paths(start, memory, fd);
-    libc::close(fd);
+    Ok(())
 }
 
-fn replay_arguments(first: usize, second: usize, third: usize) {
-    let mut start = io::buffer();
-    let mut memory = io::buffer();
-    let mut trace = io::buffer();
-    let n = os::arg(first, &mut start);
-    let m = os::arg(second, &mut memory);
-    let k = os::arg(third, &mut trace);
-    replay(&start[..n], &memory[..m], &trace[..k]);
+// The bytes of an argument, at the front of the buffer: none of one that is missing or too long.
+fn argument(rt: HostRuntime, place: usize, buffer: &mut [u8; 4096]) -> usize
+    ensures { result ≤ length buffer.new }
+{
+    rt.arg(place, buffer).unwrap_or(0)
 }
 
-fn main() {
-    let count = os::arg_count();
-    for case in 0..count / 3 {
-        replay_arguments(3 * case + 1, 3 * case + 2, 3 * case + 3);
+fn replay_arguments(rt: HostRuntime, first: usize, second: usize, third: usize) -> io::Result<()> {
+    let mut start = [0u8; 4096];
+    let mut memory = [0u8; 4096];
+    let mut trace = [0u8; 4096];
+    let n = argument(rt, first, &mut start);
+    let m = argument(rt, second, &mut memory);
+    let k = argument(rt, third, &mut trace);
+    replay(rt, &start[..n], &memory[..m], &trace[..k])
+}
+
+fn main(rt: HostRuntime) -> io::Result<()> {
+    for case in 0..usize::MAX / 3 {
+        if !streams::has_argument(rt, 3 * case + 2) {
+            break;
+        }
+        replay_arguments(rt, 3 * case + 1, 3 * case + 2, 3 * case + 3)?;
     }
+    Ok(())
 }

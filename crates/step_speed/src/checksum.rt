@@ -5,13 +5,13 @@ use steps::{Answer, Trap};
 
 // Each word counts by its value and by its place.
 fn summed(sum: u64, word: u64) -> u64 {
-    std::num::wrapping_add_u64((sum << 1) | (sum >> 63), word)
+    ((sum << 1) | (sum >> 63)).wrapping_add(word)
 }
 
 fn cause_number(trap: Trap) -> u64 {
     match trap {
         Trap::Exception(cause) => cause,
-        Trap::Interrupt(number) => std::num::wrapping_add_u64(0x8000000000000000, number),
+        Trap::Interrupt(number) => 0x8000000000000000u64.wrapping_add(number),
     }
 }
 
@@ -23,15 +23,15 @@ fn flag_number(flag: bool) -> u64 {
 fn answer_number(answer: Answer) -> u64 {
     match answer {
         Answer::Done => 0,
-        Answer::DoneValue(value) => std::num::wrapping_add_u64(1, value),
-        Answer::DoneFlag(flag) => std::num::wrapping_add_u64(2, flag_number(flag)),
-        Answer::Granted(entry) => std::num::wrapping_add_u64(3, entry as u64),
+        Answer::DoneValue(value) => 1u64.wrapping_add(value),
+        Answer::DoneFlag(flag) => 2u64.wrapping_add(flag_number(flag)),
+        Answer::Granted(entry) => 3u64.wrapping_add(entry as u64),
         Answer::Trapped(trap, level, entry) => {
-            let level = std::num::wrapping_add_u64(4, steps::level_number(level));
-            let cause = std::num::wrapping_add_u64(level, cause_number(trap));
-            std::num::wrapping_add_u64(cause, entry as u64)
+            let level = 4u64.wrapping_add(steps::level_number(level));
+            let cause = level.wrapping_add(cause_number(trap));
+            cause.wrapping_add(entry as u64)
         }
-        Answer::Refused(number) => std::num::wrapping_add_u64(5, number),
+        Answer::Refused(number) => 5u64.wrapping_add(number),
     }
 }
 
@@ -44,18 +44,14 @@ pub(crate) fn left_by(start: u64, hart: Hart, map: Map) -> u64 {
     let state = hart.state;
     let words = state::to_words(state);
     let mut sum = start;
-    let mut i: usize = 0;
-    while i < 43 {
-        sum = summed(sum, words[i]);
-        i += 1;
+    for word in words {
+        sum = summed(sum, word);
     }
     sum = summed(sum, map.count);
     let n = map::count_read(map.count);
-    let mut k: usize = 0;
-    while k < n {
+    for k in 0..n {
         let range = map.ranges[k];
         sum = summed(summed(summed(sum, range.first), range.last), range.owner);
-        k += 1;
     }
     sum
 }

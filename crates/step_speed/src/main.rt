@@ -9,8 +9,9 @@ mod translated;
 
 use checksum::{answered, left_by};
 use hart::{Hart, Mapped};
-use libc::STDOUT_FILENO;
 use mixes::{setting_of, settings, step_of};
+use std::env::Env;
+use std::io;
 use translated::tables;
 
 // A hart from which a mix starts.
@@ -20,12 +21,10 @@ fn set_up(mix: u64) -> Mapped {
     let mut map = reset.map;
     let none: [u64; 0] = [];
     let count = settings(mix);
-    let mut place: u64 = 0;
-    while place < count {
+    for place in 0..count {
         let next = hart.step(map, &none, 0, setting_of(mix, place));
         hart = next.hart;
         map = next.map;
-        place += 1;
     }
     Mapped { hart, map }
 }
@@ -36,14 +35,12 @@ fn step_through(mix: u64, memory: &[u64], base: u64, count: u64) -> u64 {
     let mut hart = start.hart;
     let mut map = start.map;
     let mut sum: u64 = 0;
-    let mut done: u64 = 0;
-    while done < count {
+    for done in 0..count {
         let next = hart.step(map, memory, base, step_of(mix, done));
         let answer = next.answer;
         sum = answered(sum, answer);
         hart = next.hart;
         map = next.map;
-        done += 1;
     }
     left_by(sum, hart, map)
 }
@@ -58,54 +55,49 @@ fn checksum_of(mix: u64, count: u64) -> u64 {
     }
 }
 
-fn report(mix: u64, count: u64) {
-    io::write_all(STDOUT_FILENO, b"mix ");
-    io::print_decimal(STDOUT_FILENO, mix);
-    io::write_all(STDOUT_FILENO, b" steps ");
-    io::print_decimal(STDOUT_FILENO, count);
-    io::write_all(STDOUT_FILENO, b" checksum ");
-    io::print_hex(STDOUT_FILENO, checksum_of(mix, count), 16);
-    io::write_all(STDOUT_FILENO, b"\n");
+fn report(rt: HostRuntime, mix: u64, count: u64) -> io::Result<()> {
+    let checksum = checksum_of(mix, count);
+    println!(rt; "mix {mix} steps {count} checksum {checksum:016x}")
 }
 
 // The number that the leading decimal digits of a text name, of which the first eighteen count.
 fn number_in(text: &[u8]) -> u64 {
     let mut number: u64 = 0;
-    let mut i: usize = 0;
-    while i < text.len() {
-        let byte = text[i];
-        if byte < b'0' {
+    for byte in text {
+        if *byte < b'0' {
             return number;
         }
-        if b'9' < byte {
+        if b'9' < *byte {
             return number;
         }
         if 99999999999999999 < number {
             return number;
         }
-        number = number * 10 + ((byte - b'0') as u64);
-        i += 1;
+        number = number * 10 + ((*byte - b'0') as u64);
     }
     number
 }
 
-fn argument(place: usize) -> u64 {
+// One that is missing or has more than 20 bytes is read as 0.
+fn argument(rt: HostRuntime, place: usize) -> u64 {
     let mut text = [0u8; 20];
-    let length = os::arg(place, &mut text);
-    number_in(&text[..length])
+    match rt.arg(place, &mut text) {
+        Ok(length) => number_in(&text[..length]),
+        Err(_) => 0,
+    }
 }
 
-fn main() {
-    let mix = argument(1);
-    let count = argument(2);
+fn main(rt: HostRuntime) -> io::Result<()> {
+    let mix = argument(rt, 1);
+    let count = argument(rt, 2);
     if (1 <= mix) & (mix <= 6) {
-        report(mix, count);
+        report(rt, mix, count)
     } else {
-        report(1, count);
-        report(2, count);
-        report(3, count);
-        report(4, count);
-        report(5, count);
-        report(6, count);
+        report(rt, 1, count)?;
+        report(rt, 2, count)?;
+        report(rt, 3, count)?;
+        report(rt, 4, count)?;
+        report(rt, 5, count)?;
+        report(rt, 6, count)
     }
 }

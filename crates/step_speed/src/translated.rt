@@ -15,10 +15,8 @@ pub(crate) fn tables() -> [u64; 1536] {
     words[1] = 0x10000000 | USER_PAGE;
     words[512] = 0x20000801;
     words[513] = 0x24080000 | USER_PAGE;
-    let mut page: usize = 0;
-    while page < 512 {
+    for page in 0..512usize {
         words[1024 + page] = (((0x90000 + page) as u64) << 10) | USER_PAGE;
-        page += 1;
     }
     words[1024] = 0x24000053;
     words[1025] = 0x240004CF;

@@ -1,35 +1,53 @@
-// Reading and writing whole buffers, in as many calls as the system takes.
+// Reading and writing whole buffers, in as many calls as the system takes; files and arguments by their bytes; and telling what went wrong.
 #![tactic(auto)]
 
+ghost use Rattle.std.specs.Prelude.{◌≤◌, length, IfSome};
 ghost use Rattle.streams.specs.Transfers.{Filled, Written};
 
-use libc::STDOUT_FILENO;
+use arrayvec::ArrayString;
+use std::env::{Env, FillError};
+use std::fmt::Write;
+use std::fs::File;
+use std::io;
+use std::io::{Print, Read};
+use std::str::from_utf8;
 
-// The bytes that were moved, and whether a call failed.
+// Linux's numbers of what is told of a name: a NUL in it, too many bytes, and bytes that are not UTF-8.
+const INVALID: i32 = 22;
+
+const TOO_LONG: i32 = 36;
+
+const NOT_TEXT: i32 = 84;
+
+// The bytes that were moved, and whether a call failed, with what the system said of it.
 #[derive(Clone, Copy)]
 pub struct Transfer {
     pub count: usize,
     pub failed: bool,
+    pub error: Option<io::Error>,
 }
 
 // Reads until the buffer is full, the input ends or a read fails.
-pub fn fill(fd: i32, buffer: &mut [u8]) -> Transfer
+pub fn fill<R: Read>(input: &mut R, buffer: &mut [u8]) -> Transfer
     ensures { Filled buffer.old result }
 {
     let mut count: usize = 0;
     while count < buffer.len() {
-        let got = libc::read(fd, &mut buffer[count..]);
-        if got < 0 {
-            return Transfer {
-                count,
-                failed: true,
-            };
-        }
-        let more = io::count(got, &buffer[count..]);
+        let more = match input.read(&mut buffer[count..]) {
+            Ok(more) => more,
+            Err(error) => {
+                return Transfer {
+                    count,
+                    failed: true,
+                    error: Some(error),
+                };
+            }
+        };
         if more == 0 {
             return Transfer {
                 count,
                 failed: false,
+                error: None,
             };
         }
         count += more;
@@ -37,19 +55,22 @@ pub fn fill(fd: i32, buffer: &mut [u8]) -> Transfer
     Transfer {
         count,
         failed: false,
+        error: None,
     }
 }
 
 // Writes to standard output. A write that takes nothing ends it, and is told.
-pub fn write(bytes: &[u8]) -> Transfer
+pub fn write(rt: HostRuntime, bytes: &[u8]) -> Transfer
     ensures { Written bytes.now result }
 {
     let mut count: usize = 0;
+    let mut error = None;
     while count < bytes.len() {
-        let put = libc::write(STDOUT_FILENO, &bytes[count..]);
-        let taken = io::count(put, &bytes[count..]);
+        let put = rt.write_some(&bytes[count..]);
+        error = put.err();
+        let taken = put.unwrap_or(0);
         if taken == 0 {
-            os::fail(b"standard output");
+            fail(rt, b"standard output", error);
             break;
         }
         count += taken;
@@ -57,5 +78,58 @@ pub fn write(bytes: &[u8]) -> Transfer
     Transfer {
         count,
         failed: count < bytes.len(),
+        error,
     }
+}
+
+// A line on standard error: what failed, and the system's text of the error.
+pub fn fail(rt: HostRuntime, what: &[u8], error: Option<io::Error>) {
+    let error = error.unwrap_or(io::Error::from_raw_os_error(0));
+    let mut text = ArrayString::<320>::new();
+    let _ = write!(text, "{error}");
+    let words = text.as_str();
+    let words = match words.split_once(" (os error ") {
+        Some((words, _)) => words,
+        None => words,
+    };
+    let err = rt.stderr();
+    let _ = err.write_all(what);
+    let _ = err.write_all(b": ");
+    let _ = err.write_all(words.as_bytes());
+    let _ = err.write_all(b"\n");
+}
+
+// Opens a file for reading by the bytes of its path.
+pub fn open(rt: HostRuntime, path: &[u8]) -> io::Result<File> {
+    if path.len() >= 4096 {
+        return Err(io::Error::from_raw_os_error(TOO_LONG));
+    }
+    if path.contains(&0) {
+        return Err(io::Error::from_raw_os_error(INVALID));
+    }
+    match from_utf8(path) {
+        Ok(path) => File::open(&rt, path),
+        Err(_) => Err(io::Error::from_raw_os_error(NOT_TEXT)),
+    }
+}
+
+// Whether the program has an argument at a place, of which the first is 1.
+pub fn has_argument(rt: HostRuntime, place: usize) -> bool {
+    match rt.arg(place, &mut []) {
+        Err(FillError::NotPresent) => false,
+        _ => true,
+    }
+}
+
+// Puts an argument at the front of the buffer: its length. One that is missing or too long is told by its name.
+pub fn argument(rt: HostRuntime, place: usize, name: &[u8], buffer: &mut [u8]) -> Option<usize>
+    ensures { IfSome result (λ n. n ≤ length buffer.new) }
+{
+    let number = match rt.arg(place, buffer) {
+        Ok(n) => return Some(n),
+        Err(FillError::TooLong) => TOO_LONG,
+        Err(FillError::NotPresent) => INVALID,
+    };
+    fail(rt, name, Some(io::Error::from_raw_os_error(number)));
+    None
 }

@@ -1,0 +1,6 @@
+use Rattle.std.proofs.Common.{rules, length-take-le}
+use Rattle.replay_stream.proofs.Streaming.{piece-fed}
+use Rattle.replay_stream.proofs.piece.Goals as goal
+
+pub returns : goal.returns
+returns g c = record { piece = _; session = piece-fed _ _ _ _ (search (rules, length-take-le)) (search rules) c.feed-fed.ensures.value }
