@@ -17,7 +17,7 @@ use crate::feeds::Feeds;
 use crate::mixes::formed;
 use crate::processor::{here, in_programs};
 
-const PRODUCT: &str = "target/bin/replay";
+const PRODUCT: &str = "crates/replay/out/replay";
 const REFERENCE: &str = "bench/target/release/replay_reference";
 pub const RECORDS: usize = 1_000_000;
 const SEED: u64 = 1;

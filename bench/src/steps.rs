@@ -19,7 +19,7 @@ use crate::csr_table::{self, Table};
 use crate::mixes::{Judgement, MIXES, Mix, Words, formed};
 use crate::processor;
 
-const PROGRAM: &str = "target/bin/step_speed";
+const PROGRAM: &str = "crates/step_speed/out/step_speed";
 /// Steps of one call of `tegrwyllt_run`.
 pub const BATCH: usize = 1_024;
 /// The part of the steps that is timed to be taken off, with the start-up.
