@@ -21,7 +21,7 @@ pub(crate) fn load_reader(carried: &[u8], place: &[u64]) -> Reader
     ensures { result ≡ reader_in carried.now place.now }
 {
     let mut bytes = [0u8; 59];
-    bytes::copy(carried, &mut bytes);
+    bytes.copy_from_slice(carried);
     Reader {
         carried: bytes,
         count: place[0],
@@ -43,7 +43,7 @@ pub(crate) fn store_reader(reader: Reader, answered: u64, carried: &mut [u8], pl
     ensures place_after { place.new ≡ place_of reader answered }
 {
     let bytes = reader.carried;
-    bytes::copy(&bytes, carried);
+    carried.copy_from_slice(&bytes);
     let words = [
         reader.count,
         reader.number,

@@ -24,7 +24,6 @@ use Rattle.protection.specs.Configs.{packed, unpacked, configs_of}
 use Rattle.protection.specs.Read.{is_pmp, pmp_read}
 use Rattle.protection.specs.Same.{same_pmp}
 use Rattle.protection.proofs.SameLaws.{same_pmp-refl}
-use Rattle.paging.specs.declared.Context.{Context}
 use Rattle.paging.specs.declared.Reached.{Reached}
 use Rattle.paging.specs.Memory.{Memory}
 use Rattle.paging.specs.Access.{reached}

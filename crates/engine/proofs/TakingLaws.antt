@@ -1,17 +1,15 @@
 -- What is told of a step: where refusal 3 does not apply, where it does, and of the state that is left. Assumes nothing.
 use mathlib.Core.Path.{◌≡◌, refl, sym, ap, ◌∙◌}
-use mathlib.Core.Bool.{Bool, true, false, cond, not, ◌||◌}
+use mathlib.Core.Bool.{Bool, true, false, cond, ◌||◌}
 use Rattle.bits.proofs.Conjunction.{neither}
 use Rattle.steps.specs.declared.Step.{Step}
 use Rattle.steps.specs.declared.Answer.TheVariants.{Refused}
-use Rattle.protection.specs.Same.{same_pmp}
 use Rattle.protection.proofs.SameLaws.{same_pmp-refl}
 use Rattle.paging.specs.Memory.{Memory}
 use Rattle.state.specs.declared.State.{State}
 use Rattle.state.specs.Hold.{can_hold}
 use Rattle.state.proofs.Held.{reset-holds}
-use Rattle.engine.specs.declared.Taken.{Taken}
-use Rattle.engine.specs.Effects.{Effect, refused, effect, is_reset, ruled_by}
+use Rattle.engine.specs.Effects.{refused, effect, is_reset, ruled_by}
 use Rattle.engine.specs.Taking.{effect_taken, step_taken}
 use Rattle.engine.proofs.EffectLaws.{only-reset}
 use Rattle.engine.proofs.Holds.{effect-holds}

@@ -1,14 +1,12 @@
 -- A list of steps by a hart leaves the state of the step rules, and the map that was given or that of the registers left. Assumes nothing.
-use Prim.Native.Nat.{ℕ}
 use mathlib.Core.Path.{◌≡◌, refl, sym, ap, ◌∙◌}
 use mathlib.Core.Bool.{Bool, true, false, cond, not, ◌||◌}
 use mathlib.Core.List.{List, [], ◌∷◌}
 use borrow.Author.Tests.{not-false}
-use Rattle.bits.specs.Fold.{fold, outputs, any_step}
+use Rattle.bits.specs.Fold.{fold, any_step}
 use Rattle.bits.proofs.Conjunction.{neither}
 use Rattle.bits.proofs.FoldLaws.{outputs_related, no_step-keeps}
 use Rattle.steps.specs.Number.{answer_numbers}
-use Rattle.protection.specs.declared.Pmp.{Pmp}
 use Rattle.protection.specs.Same.{same_pmp}
 use Rattle.protection.proofs.SameLaws.{same_pmp_lem}
 use Rattle.state.specs.declared.State.{State}

@@ -2,7 +2,7 @@
 use Rattle.std.specs.Prelude.{ℕ, cond, List}
 use Rattle.steps.specs.declared.Step.{Step}
 use Rattle.steps.specs.declared.Answer.{Answer}
-use Rattle.steps.specs.declared.Answer.TheVariants.{Done, Refused}
+use Rattle.steps.specs.declared.Answer.TheVariants.{Done}
 use Rattle.steps.specs.Number.{answer_numbers}
 use Rattle.protection.specs.declared.Pmp.{Pmp}
 use Rattle.protection.specs.Hold.{reset_pmp}

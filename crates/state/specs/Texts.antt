@@ -1,5 +1,5 @@
 -- 02, [8] to [10]: the states that the first form of a saved text, 01's, can hold.
-use Rattle.std.specs.Prelude.{ℕ, Bool, not, ◌&&◌, eqb}
+use Rattle.std.specs.Prelude.{Bool, not, ◌&&◌, eqb}
 use Rattle.bits.specs.Mask.{within}
 use Rattle.registers.specs.Status.{sum}
 use Rattle.state.specs.declared.State.{State}

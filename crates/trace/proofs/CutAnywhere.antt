@@ -9,7 +9,7 @@ use Rattle.paging.specs.Memory.{Memory, memory_at}
 use Rattle.trace.specs.Replies.{Reply}
 use Rattle.trace.specs.Reading.{Replay, Reading, reading, after_record, record_replies, after_byte, byte_replies, after_bytes, replies_to}
 use Rattle.trace.specs.Feeding.{reading_of, answerable, after_feed, feed_replies, taken_by, fed}
-use Rattle.trace.specs.CutAnywhere.{Feed, Handed, handed_after, taken_from, answers_to, lent_at, after_feeds, all_taken, all_answers, all_lent, Outcome, outcome, CutAnywhere, scraps, AllRoom, EveryByte, AllLend, at_once, OneSlice}
+use Rattle.trace.specs.CutAnywhere.{Feed, Handed, handed_after, taken_from, answers_to, lent_at, after_feeds, all_taken, all_answers, all_lent, Outcome, outcome, CutAnywhere, EveryByte, AllLend, at_once, OneSlice}
 use Rattle.trace.proofs.OneByte.{bytes-ignored}
 use Rattle.trace.proofs.Readers.{reading_kept, bytes_kept, reading-back}
 

@@ -173,5 +173,5 @@ module _ (s : Session) (before : List ℕ) where
   unfolding session_ending bytes_of
   finish_refused after filled h room e put =
       let line = refused_line s.refusal in
-      let short : length line ≤ 4096 = omega (arith, writing.numbered-length (bytes_of "refused ") s.refusal) in
+      let short : length line ≤ 4096 = omega (arith, writing.numbered_length (bytes_of "refused ") s.refusal) in
       rw (h, ne_eqb s.refusal 0 e) (writing.written 4096 line before after filled room short put)

@@ -85,7 +85,7 @@ pub record WorkedRecords : Type 0 where
   pub eighteen : read_step (bytes_of "step=0000000000000012\na=0000000000000000\nb=0000000000000000\n") ≡ Nothing
   -- an unused argument that is not 0
   pub unused : read_step (bytes_of "step=0000000000000004\na=0000000000000300\nb=0000000000000001\n") ≡ Nothing
-  -- broken lines: an upper_case digit, another key, a carriage return for a line feed
+  -- broken lines: an upper-case digit, another key, a carriage return for a line feed
   pub upper_case : read_step (bytes_of "step=0000000000000005\na=0000000000000002\nb=00000000000000AB\n") ≡ Nothing
   pub other_key : read_step (bytes_of "step=0000000000000005\nb=0000000000000002\na=00000000000000ab\n") ≡ Nothing
   pub other_end : read_step (bytes_of "step=0000000000000005\na=0000000000000002\nb=00000000000000ab\r") ≡ Nothing

@@ -18,7 +18,7 @@ use Rattle.trace.specs.Feeding.{new_reader, left_count, reading_of, reader_of}
 use Rattle.trace.specs.SavedTexts.{form_by_length}
 use Rattle.trace.specs.Endings.{ending}
 
--- a session that Starts with a hart and its map; a refusal other than 0 has ended it
+-- a session that starts with a hart and its map; a refusal other than 0 has ended it
 abbrev pub session_from : Hart → Map → ℕ → Session
 session_from h map refusal = record {
   reader = new_reader;
@@ -32,7 +32,7 @@ session_from h map refusal = record {
 unfoldable pub reset_session : Session
 reset_session = session_from (reset_mapped 0).hart (reset_mapped 0).map 0
 
--- 01, "Saved text", and 02, [10]: what reading a text of either form back gives; a refused text Starts nothing
+-- 01, "Saved text", and 02, [10]: what reading a text of either form back gives; a refused text starts nothing
 abbrev pub read_session : Stepped → Session
 read_session read = session_from read.hart read.map (refusal_of read.answer)
 

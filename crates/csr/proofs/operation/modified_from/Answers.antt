@@ -1,5 +1,4 @@
 use borrow.Author.Tests.{eq-eqb, ne_eqb}
-use borrow.Author.Rules.{rules}
 use Rattle.csr.proofs.operation.modified_from.Goals as goal
 
 pub returns-then-number-eq836 : goal.returns-then-number-eq836

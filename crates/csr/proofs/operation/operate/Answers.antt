@@ -1,6 +1,5 @@
 use Rattle.state.proofs.SliceLaws.{registers_unfit}
 use Rattle.csr.proofs.OperateLaws.{stores, reads}
-use borrow.Author.Rules.{rules}
 use Rattle.csr.proofs.operation.operate.Goals as goal
 
 pub returns-then-words-ne43 : goal.returns-then-words-ne43

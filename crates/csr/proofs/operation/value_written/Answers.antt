@@ -1,4 +1,3 @@
-use borrow.Author.Rules.{rules}
 use Rattle.csr.proofs.operation.value_written.Goals as goal
 
 pub returns-in-Write : goal.returns-in-Write

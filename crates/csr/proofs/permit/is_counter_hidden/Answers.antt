@@ -1,5 +1,4 @@
 use borrow.Author.Tests.{le-leb, lt-leb}
-use borrow.Author.Rules.{rules}
 use Rattle.csr.proofs.permit.is_counter_hidden.Goals as goal
 
 pub returns-then-n-lt3072 : goal.returns-then-n-lt3072

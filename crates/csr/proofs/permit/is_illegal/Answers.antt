@@ -1,4 +1,3 @@
-use borrow.Author.Rules.{rules}
 use Rattle.csr.proofs.TableLaws.{illegal-by-number, illegal-to_machine}
 use Rattle.csr.proofs.permit.is_illegal.Goals as goal
 

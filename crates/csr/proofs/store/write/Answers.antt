@@ -1,12 +1,7 @@
-use Prim.Native.Nat.{ℕ, ◌<◌}
-use mathlib.Core.Path.{◌≡◌, refl}
+use mathlib.Core.Path.{refl}
 use native.Mathlib.Omega.{arith}
-use lib.ListN.{set}
 use borrow.Author.Tests.{ne_eqb}
 use borrow.Author.Rules.{rules}
-use Rattle.registers.specs.declared.Registers.{Registers}
-use Rattle.state.specs.Words.{register_words, registers_of}
-use Rattle.state.specs.Slices.{stored_registers}
 use Rattle.state.proofs.SliceLaws.{one_stored, none-stored}
 use Rattle.csr.specs.Store.{registers_written}
 use Rattle.csr.proofs.store.write.Goals as goal

@@ -1,5 +1,4 @@
 use Prim.Native.Nat.{◌/◌}
-use borrow.Author.Rules.{rules}
 use Rattle.csr.specs.Permit.{present}
 use Rattle.csr.proofs.TableLaws.{numbers, in_row, in_absent_row, absent}
 use Rattle.csr.proofs.table.accessibility.Goals as goal

@@ -1,7 +1,6 @@
 use mathlib.Core.Path.{refl}
 use Rattle.paging.specs.Memory.{memory_at}
 use Rattle.engine.proofs.InPlace.{access_does, fault_does}
-use borrow.Author.Rules.{rules}
 use Rattle.engine.proofs.access.access_at.Goals as goal
 
 pub returns-in-Granted : goal.returns-in-Granted

@@ -1,4 +1,3 @@
-use borrow.Author.Rules.{rules}
 use Rattle.engine.proofs.access.step_access.Goals as goal
 
 pub returns-in-Fetch : goal.returns-in-Fetch

@@ -1,5 +1,4 @@
 use mathlib.Core.Path.{sym, ◌∙◌}
-use borrow.Author.Rules.{rules}
 use Rattle.engine.proofs.csrs.operate_satp.Goals as goal
 
 pub returns-then-attempts_write : goal.returns-then-attempts_write

@@ -1,6 +1,5 @@
 use mathlib.Core.Path.{◌∙◌}
 use Rattle.engine.proofs.InPlace.{number-refused, csr_illegal, csr_protection, csr_satp, csr_register}
-use borrow.Author.Rules.{rules}
 use Rattle.engine.proofs.csrs.step_csr.Goals as goal
 
 pub returns-then-number-gt4095 : goal.returns-then-number-gt4095

@@ -1,5 +1,4 @@
 use Rattle.engine.proofs.InPlace.{protection_done}
-use borrow.Author.Rules.{rules}
 use Rattle.engine.proofs.csrs.step_protection.Goals as goal
 
 pub returns : goal.returns

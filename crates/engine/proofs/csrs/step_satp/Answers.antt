@@ -1,5 +1,4 @@
 use Rattle.engine.proofs.InPlace.{satp-done}
-use borrow.Author.Rules.{rules}
 use Rattle.engine.proofs.csrs.step_satp.Goals as goal
 
 pub returns : goal.returns

@@ -1,7 +1,6 @@
 use mathlib.Core.Path.{refl, ap, ◌∙◌}
 use Rattle.state.specs.Words.{state_of}
 use Rattle.state.proofs.SliceLaws.{registers_stored}
-use borrow.Author.Rules.{rules}
 use Rattle.engine.proofs.events.leave.Goals as goal
 
 pub returns : goal.returns

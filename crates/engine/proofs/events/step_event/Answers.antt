@@ -1,5 +1,4 @@
 use Rattle.engine.proofs.InPlace.{event_does}
-use borrow.Author.Rules.{rules}
 use Rattle.engine.proofs.events.step_event.Goals as goal
 
 pub returns-in-Raise : goal.returns-in-Raise

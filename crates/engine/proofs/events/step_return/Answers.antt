@@ -1,6 +1,4 @@
-use borrow.Author.Tests.{not-true, not-false}
 use Rattle.engine.proofs.InPlace.{return_illegal, return_done}
-use borrow.Author.Rules.{rules}
 use Rattle.engine.proofs.events.step_return.Goals as goal
 
 pub returns-then-not-may_return : goal.returns-then-not-may_return

@@ -1,6 +1,5 @@
 use mathlib.Core.Path.{sym}
 use Rattle.bits.proofs.ListLaws.{set_past}
-use borrow.Author.Rules.{rules}
 use Rattle.engine.proofs.runs.put.Goals as goal
 
 pub returns-else-place-words : goal.returns-else-place-words

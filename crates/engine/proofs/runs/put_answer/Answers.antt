@@ -1,7 +1,6 @@
 use mathlib.Core.Path.{◌∙◌}
 use Rattle.engine.proofs.RunLaws.{four-put}
 use Rattle.steps.proofs.AnswerLaws.{words_are_numbers}
-use borrow.Author.Rules.{rules}
 use Rattle.engine.proofs.runs.put_answer.Goals as goal
 
 pub returns : goal.returns

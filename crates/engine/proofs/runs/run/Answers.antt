@@ -3,13 +3,13 @@ use mathlib.Core.Bool.{Bool, ◌&&◌}
 use native.Mathlib.Omega.{arith}
 use lib.Dec.{eqb}
 use lib.ListN.{length}
-use borrow.Author.Tests.{eqb-true, not-true, not-false}
+use borrow.Author.Tests.{eqb-true}
 use borrow.Author.Rules.{rules}
 use Rattle.bits.proofs.Conjunction.{both}
 use Rattle.steps.specs.Decode.{name_steps}
 use Rattle.paging.specs.Memory.{memory_at}
 use Rattle.engine.specs.Runs.{Ran}
-use Rattle.engine.proofs.RunLaws.{run_test, unrun, run_done, run_told, run_answered, run_state}
+use Rattle.engine.proofs.RunLaws.{unrun, run_done, run_told, run_answered, run_state}
 use Rattle.engine.proofs.runs.run.Goals as goal
 
 pub returns-then-not-words-name_steps : goal.returns-then-not-words-name_steps

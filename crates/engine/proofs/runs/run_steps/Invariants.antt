@@ -1,21 +1,13 @@
-use Prim.Native.Nat.{◌+◌, ◌-◌, ◌*◌, ◌^◌, ◌≤◌, ◌<◌}
-use mathlib.Core.Path.{◌≡◌, refl, ap, ◌∙◌}
+use Prim.Native.Nat.{◌-◌, ◌*◌, ◌≤◌}
+use mathlib.Core.Path.{◌≡◌}
 use mathlib.Core.Bool.{true, ◌||◌}
-use native.Mathlib.Omega.{arith}
-use lib.ListN.{length, get_or, drop}
-use lib.Seq.{sets, length-sets}
-use borrow.Author.Rules.{rules}
-use Rattle.steps.specs.Number.{answer_numbers}
-use Rattle.steps.specs.Decode.{decoded, steps_of, name_steps}
-use Rattle.steps.proofs.NumberLaws.{Named, named}
-use Rattle.paging.specs.Memory.{Memory, memory_at}
+use lib.ListN.{length, drop}
+use lib.Seq.{sets}
+use Rattle.steps.specs.Decode.{steps_of, name_steps}
+use Rattle.paging.specs.Memory.{memory_at}
 use Rattle.state.specs.Hold.{can_hold}
 use Rattle.state.specs.Words.{state_of}
-use Rattle.state.proofs.SliceLaws.{all-loaded}
-use Rattle.engine.specs.declared.Told.{Told}
-use Rattle.engine.specs.Taking.{named_taken}
 use Rattle.engine.specs.Runs.{lent, after_all, answers_of, any_remaps}
-use Rattle.engine.proofs.RunLaws.{held_next, state_next, remap_next, answers_next, state_end, remap_end, answers_end}
 use Rattle.engine.proofs.runs.run_steps.Given as goal
 
 abbrev pub invariant-loop-i : goal.invariant-loop-i

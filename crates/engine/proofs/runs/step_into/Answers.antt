@@ -1,5 +1,4 @@
 use mathlib.Core.Path.{sym}
-use borrow.Author.Rules.{rules}
 use Rattle.steps.specs.Decode.{decoded}
 use Rattle.steps.specs.Number.{answer_numbers}
 use Rattle.paging.specs.Memory.{memory_at}

@@ -1,6 +1,5 @@
 use mathlib.Core.Path.{ap, ◌∙◌}
 use lib.Seq.{sets}
-use borrow.Author.Rules.{rules}
 use Rattle.steps.specs.Number.{answer_numbers}
 use Rattle.steps.specs.Decode.{decoded}
 use Rattle.paging.specs.Memory.{memory_at}

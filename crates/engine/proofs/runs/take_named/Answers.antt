@@ -1,5 +1,4 @@
 use mathlib.Core.Path.{sym, ◌∙◌}
-use borrow.Author.Rules.{rules}
 use Rattle.engine.proofs.runs.take_named.Goals as goal
 
 pub returns-in-Formed : goal.returns-in-Formed

@@ -2,7 +2,6 @@ use mathlib.Core.Path.{◌∙◌}
 use Rattle.paging.specs.Memory.{memory_at}
 use Rattle.state.specs.Words.{state_of}
 use Rattle.engine.proofs.TakingLaws.{taken_on, taken_refused}
-use borrow.Author.Rules.{rules}
 use Rattle.engine.proofs.taking.take.Goals as goal
 
 pub returns-then-is_reset-held : goal.returns-then-is_reset-held

@@ -8,7 +8,6 @@ use Rattle.state.proofs.SliceLaws.{all-stored}
 use Rattle.engine.specs.Effects.{access_step, event_effect}
 use Rattle.engine.proofs.EffectLaws.{access_pmp}
 use Rattle.engine.proofs.InPlace.{apart_tells, reset-back}
-use borrow.Author.Rules.{rules}
 use Rattle.engine.proofs.taking.take_effect.Goals as goal
 
 pub returns-in-Reset : goal.returns-in-Reset

@@ -1,7 +1,6 @@
 use mathlib.Core.Path.{sym, ap, ◌∙◌}
 use Rattle.steps.specs.Number.{decision_numbers}
 use Rattle.hart.specs.Queries.{query_answer}
-use borrow.Author.Rules.{rules}
 use Rattle.hart.proofs.Hart.query.Goals as goal
 
 pub returns-then-can_hold : goal.returns-then-can_hold

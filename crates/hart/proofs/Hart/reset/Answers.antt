@@ -1,7 +1,6 @@
 use mathlib.Core.Path.{ap, ◌∙◌}
 use Rattle.state.specs.declared.State.{State}
 use Rattle.hart.specs.Steps.{map_for}
-use borrow.Author.Rules.{rules}
 use Rattle.hart.proofs.Hart.reset.Goals as goal
 
 pub returns : goal.returns

@@ -1,15 +1,11 @@
-use Prim.Native.Nat.{ℕ}
-use mathlib.Core.Path.{◌≡◌, sym, ap, ◌∙◌}
-use mathlib.Core.Bool.{Bool, true, false, cond, ◌&&◌}
-use borrow.Author.Tests.{not-true, not-false}
+use mathlib.Core.Path.{sym, ap, ◌∙◌}
+use mathlib.Core.Bool.{true, false}
 use Rattle.steps.specs.declared.Answer.TheVariants.{Done, Refused}
 use Rattle.map.specs.declared.Map.{Map}
-use Rattle.text.specs.Text.{read_text}
 use Rattle.hart.specs.Steps.{hart_with, handed_back}
 use Rattle.hart.specs.Saved.{restored_done, restored}
 use Rattle.hart.proofs.Numbered.{numbered}
 use Rattle.hart.proofs.SavedLaws.{read_as_lem, text_unformed, text_judged, words_count, words_judged}
-use borrow.Author.Rules.{rules}
 use Rattle.hart.proofs.Hart.restore.Goals as goal
 
 pub returns-then-not-read : goal.returns-then-not-read

@@ -1,4 +1,4 @@
-use mathlib.Core.Path.{◌≡◌, ap, ◌∙◌}
+use mathlib.Core.Path.{ap, ◌∙◌}
 use Rattle.paging.specs.Memory.{memory_at}
 use Rattle.state.specs.Hold.{can_hold}
 use Rattle.state.proofs.SliceLaws.{all-loaded}

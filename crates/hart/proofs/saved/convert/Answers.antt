@@ -1,17 +1,13 @@
-use Prim.Native.Nat.{ℕ, ◌≤◌, ◌<◌}
-use mathlib.Core.Path.{◌≡◌, sym, ap, ◌∙◌}
-use mathlib.Core.Bool.{Bool, true, false, ◌&&◌}
+use Prim.Native.Nat.{ℕ, ◌<◌}
+use mathlib.Core.Path.{sym, ap, ◌∙◌}
 use mathlib.Core.List.{List}
-use borrow.Author.Tests.{not-true, not-false}
 use lib.ListN.{length}
 use Rattle.bits.proofs.Conjunction.{both}
-use Rattle.steps.specs.declared.Answer.{Answer}
 use Rattle.state.specs.Hold.{can_hold}
-use Rattle.text.specs.Text.{length_of, written_to, read_text}
+use Rattle.text.specs.Text.{length_of, written_to}
 use Rattle.hart.specs.Steps.{hart_with}
-use Rattle.hart.specs.Saved.{form_holds, text_holds}
-use Rattle.hart.proofs.SavedLaws.{Saved, Converted, read_as_lem, save-short, save_unfit, save-done, words_count, words_are, words_judged, convert_unformed, convert_unheld, convert_saved}
-use borrow.Author.Rules.{rules}
+use Rattle.hart.specs.Saved.{form_holds}
+use Rattle.hart.proofs.SavedLaws.{read_as_lem, save-short, save_unfit, save-done, words_count, words_are, words_judged, convert_unformed, convert_unheld, convert_saved}
 use Rattle.hart.proofs.saved.convert.Goals as goal
 
 pub returns-then-not-read : goal.returns-then-not-read

@@ -1,4 +1,3 @@
-use borrow.Author.Rules.{rules}
 use Rattle.hart.proofs.saved.form_holds.Goals as goal
 
 pub returns-in-First : goal.returns-in-First

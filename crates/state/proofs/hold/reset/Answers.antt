@@ -1,4 +1,3 @@
-use borrow.Author.Rules.{rules}
 use Rattle.state.proofs.hold.reset.Goals as goal
 
 pub returns : goal.returns

@@ -1,5 +1,4 @@
 use mathlib.Core.Path.{sym}
-use borrow.Author.Rules.{rules}
 use Rattle.state.proofs.Held.{other-length-holds, words_hold}
 use Rattle.state.proofs.hold.words_can_hold.Goals as goal
 

@@ -1,6 +1,5 @@
 use borrow.Author.Tests.{eq-eqb, ne_eqb}
 use Rattle.state.specs.Slices.{loaded_registers}
-use borrow.Author.Rules.{rules}
 use Rattle.state.proofs.words.load_registers.Goals as goal
 
 pub returns-then-words-ne43 : goal.returns-then-words-ne43

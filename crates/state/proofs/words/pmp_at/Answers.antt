@@ -1,10 +1,8 @@
-use Prim.Native.Nat.{◌+◌, ◌-◌, ◌≤◌}
-use mathlib.Core.Path.{◌≡◌, refl, sym, ◌∙◌}
+use Prim.Native.Nat.{◌+◌, ◌-◌}
+use mathlib.Core.Path.{refl, sym, ◌∙◌}
 use native.Mathlib.Omega.{arith}
-use lib.Seq.{sets}
 use Rattle.bits.specs.Lists.{elements}
 use Rattle.bits.proofs.ListLaws.{copy_next, copy_end}
-use borrow.Author.Rules.{rules}
 use Rattle.state.proofs.words.pmp_at.Goals as goal
 
 pub loop-i-init : goal.loop-i-init

@@ -1,10 +1,7 @@
 use Prim.Native.Nat.{◌+◌, ◌-◌, ◌≤◌}
-use mathlib.Core.Path.{◌≡◌, refl, sym, ◌∙◌}
-use native.Mathlib.Omega.{arith}
+use mathlib.Core.Path.{◌≡◌}
 use lib.Seq.{sets}
 use Rattle.bits.specs.Lists.{elements}
-use Rattle.bits.proofs.ListLaws.{copy_next, copy_end}
-use borrow.Author.Rules.{rules}
 use Rattle.state.proofs.words.pmp_at.Given as goal
 
 abbrev pub invariant-loop-i : goal.invariant-loop-i

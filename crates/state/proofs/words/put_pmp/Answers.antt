@@ -1,11 +1,8 @@
-use Prim.Native.Nat.{◌+◌, ◌-◌, ◌≤◌}
-use mathlib.Core.Path.{◌≡◌, refl, sym, ◌∙◌}
+use Prim.Native.Nat.{◌+◌, ◌-◌}
+use mathlib.Core.Path.{refl, sym, ◌∙◌}
 use native.Mathlib.Omega.{arith}
-use lib.ListN.{length, length-set}
-use lib.Seq.{sets}
-use Rattle.bits.specs.Lists.{elements}
+use lib.ListN.{length-set}
 use Rattle.bits.proofs.ListLaws.{copy_next, copy_end}
-use borrow.Author.Rules.{rules}
 use Rattle.state.proofs.words.put_pmp.Goals as goal
 
 pub loop-i-init : goal.loop-i-init

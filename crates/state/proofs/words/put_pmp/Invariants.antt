@@ -1,11 +1,8 @@
 use Prim.Native.Nat.{◌+◌, ◌-◌, ◌≤◌}
-use mathlib.Core.Path.{◌≡◌, refl, sym, ◌∙◌}
-use native.Mathlib.Omega.{arith}
-use lib.ListN.{length, length-set}
+use mathlib.Core.Path.{◌≡◌}
+use lib.ListN.{length}
 use lib.Seq.{sets}
 use Rattle.bits.specs.Lists.{elements}
-use Rattle.bits.proofs.ListLaws.{copy_next, copy_end}
-use borrow.Author.Rules.{rules}
 use Rattle.state.proofs.words.put_pmp.Given as goal
 
 abbrev pub invariant-loop-i : goal.invariant-loop-i

@@ -1,6 +1,5 @@
 use mathlib.Core.Path.{ap, ◌∙◌}
 use Rattle.state.specs.Slices.{stored_pmp, stored_satp}
-use borrow.Author.Rules.{rules}
 use Rattle.state.proofs.words.store.Goals as goal
 
 pub returns : goal.returns

@@ -1,7 +1,6 @@
 use borrow.Author.Tests.{eq-eqb}
 use Rattle.state.specs.Slices.{stored_registers}
 use Rattle.state.proofs.SliceLaws.{registers_unfit}
-use borrow.Author.Rules.{rules}
 use Rattle.state.proofs.words.store_registers.Goals as goal
 
 pub returns-then-words-ne43 : goal.returns-then-words-ne43

@@ -1,6 +1,5 @@
 use borrow.Author.Tests.{eq-eqb, ne_eqb}
 use Rattle.state.specs.Slices.{stored_satp}
-use borrow.Author.Rules.{rules}
 use Rattle.state.proofs.words.store_satp.Goals as goal
 
 pub returns-then-words-ne43 : goal.returns-then-words-ne43

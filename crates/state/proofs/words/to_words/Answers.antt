@@ -1,6 +1,5 @@
 use mathlib.Core.Path.{refl, ◌∙◌}
 use lib.ListN.{replicate}
-use borrow.Author.Rules.{rules}
 use Rattle.state.proofs.Back.{words-state}
 use Rattle.state.proofs.SliceLaws.{all-stored}
 use Rattle.state.proofs.words.to_words.Goals as goal
