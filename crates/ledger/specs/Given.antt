@@ -1,0 +1,54 @@
+-- 02, [4]: a step with the ledger lent at it, or with none. Step 18 can be formed with a ledger alone.
+use Rattle.std.specs.Prelude.{ℕ, Bool, false, cond, List, [], ◌∷◌, eqb, get_or}
+use Rattle.std.proofs.Math.Option.{Option, some, none}
+use Rattle.steps.specs.declared.Step.{Step}
+use Rattle.steps.specs.declared.Decoded.{Decoded}
+use Rattle.steps.specs.declared.Decoded.TheVariants.{Formed, Nothing}
+use Rattle.steps.specs.Decode.{decoded, is_access}
+use Rattle.ledger.specs.Numbers.{numbers_of}
+use Rattle.ledger.specs.declared.Ledger.{Ledger}
+use Rattle.ledger.specs.declared.MeteredStep.{MeteredStep}
+use Rattle.ledger.specs.declared.MeteredStep.TheVariants.{Step as Plain, Tenant}
+
+pub data Given : Type 0 where
+  Unmetered : Step → Given
+  Metered : MeteredStep → Ledger → Given
+
+-- the three numbers of a step
+abbrev pub metered_numbers : MeteredStep → List ℕ
+metered_numbers (Plain step) = numbers_of step
+metered_numbers (Tenant a b) = 18 ∷ a ∷ b ∷ []
+
+abbrev pub number_of : MeteredStep → ℕ
+number_of step = get_or (metered_numbers step) 0 0
+
+abbrev pub first_of : MeteredStep → ℕ
+first_of step = get_or (metered_numbers step) 1 0
+
+abbrev pub second_of : MeteredStep → ℕ
+second_of step = get_or (metered_numbers step) 2 0
+
+-- steps 14 to 16
+abbrev pub accesses : Given → Bool
+accesses (Unmetered step) = is_access step
+accesses (Metered (Plain step) l) = is_access step
+accesses (Metered (Tenant a b) l) = false
+
+-- ---- the step that three numbers name, by the ledger that is lent, if any
+
+abbrev pub unmetered : Decoded → Option Given
+unmetered (Formed step) = some (Unmetered step)
+unmetered Nothing = none
+
+abbrev pub metered : Ledger → Decoded → Option Given
+metered l (Formed step) = some (Metered (Plain step) l)
+metered l Nothing = none
+
+abbrev pub asked : Option Ledger → (step a b : ℕ) → Option Given
+asked none step a b = unmetered (decoded step a b)
+asked (some l) step a b = cond (eqb step 18) (some (Metered (Tenant a b) l)) (metered l (decoded step a b))
+
+-- the highest step number
+abbrev pub last_step : Option Ledger → ℕ
+last_step none = 17
+last_step (some l) = 18

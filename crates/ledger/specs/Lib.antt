@@ -1,0 +1,5 @@
+-- The definitions that the contracts cite.
+pub mod Rules
+pub mod Words
+pub mod Numbers
+pub mod Given
