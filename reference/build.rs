@@ -1,5 +1,5 @@
 //! With the feature `capi`, links libcapi.a from the folder in the variable
-//! TEGRWYLLT_LIB, or from crates/capi/out beside this package.
+//! TEGRWYLLT_LIB, or from target/staticlib beside this package.
 
 use std::env;
 use std::path::PathBuf;
@@ -20,6 +20,6 @@ fn archive_folder() -> PathBuf {
     let package = PathBuf::from(env::var_os("CARGO_MANIFEST_DIR").expect("set by cargo"));
     match env::var_os("TEGRWYLLT_LIB") {
         Some(folder) => package.join(folder),
-        None => package.join("../crates/capi/out"),
+        None => package.join("../target/staticlib"),
     }
 }

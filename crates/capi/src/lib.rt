@@ -1,5 +1,5 @@
-// The interface for C: harts, maps, steps and answers as 43, 100, three and four words. A call whose slices have another length changes nothing. A memory
-// of page tables is words that stand at a physical address; it may have any length.
+// The interface for C, whose exports stand in `capi_c`: harts, maps, steps and answers as 43, 100, three and four words. A call whose slices have another length
+// changes nothing. A memory of page tables is words that stand at a physical address; it may have any length.
 #![tactic(auto)]
 
 mod feeding;
@@ -44,8 +44,7 @@ fn put(given: Hart, whole: Map, hart: &mut [u64], map: &mut [u64])
 }
 
 // Makes a hart as after reset, with a grain, and its map. 1, or 0 where a length is another.
-#[unsafe(no_mangle)]
-pub extern "C" fn tegrwyllt_make(grain: u64, hart: &mut [u64], map: &mut [u64]) -> u64
+pub fn tegrwyllt_make(grain: u64, hart: &mut [u64], map: &mut [u64]) -> u64
     ensures value { result ≡ make_result hart.old map.old }
     ensures hart_after { hart.new ≡ made_hart grain hart.old map.old }
     ensures map_after { map.new ≡ made_map grain hart.old map.old }
@@ -61,8 +60,7 @@ pub extern "C" fn tegrwyllt_make(grain: u64, hart: &mut [u64], map: &mut [u64]) 
 }
 
 // One step: its number, 0 to 17, and its arguments. 1, or 0 where a length or the number is another.
-#[unsafe(no_mangle)]
-pub extern "C" fn tegrwyllt_step(
+pub fn tegrwyllt_step(
     hart: &mut [u64],
     map: &mut [u64],
     memory: &[u64],
@@ -87,8 +85,7 @@ pub extern "C" fn tegrwyllt_step(
 
 // Steps in order, each given what the one before left: three words for each step, and four for its answer. 1, or 0 where a length or a step's number is
 // another.
-#[unsafe(no_mangle)]
-pub extern "C" fn tegrwyllt_run(
+pub fn tegrwyllt_run(
     hart: &mut [u64],
     map: &mut [u64],
     memory: &[u64],
@@ -112,8 +109,7 @@ pub extern "C" fn tegrwyllt_run(
 }
 
 // An access query of an effective mode, 0, 1 or 3, and a kind, 0 fetch, 1 load, 2 store. 1, or 0 where a length, the mode or the kind is another.
-#[unsafe(no_mangle)]
-pub extern "C" fn tegrwyllt_query(
+pub fn tegrwyllt_query(
     hart: &[u64],
     map: &[u64],
     mode: u64,
@@ -150,8 +146,7 @@ fn form_of(form: u64) -> Form
 }
 
 // Saves a hart in a form, 1 or 2, to the front of a buffer. 0, or the number of the refusal, 3 before 6 before 12.
-#[unsafe(no_mangle)]
-pub extern "C" fn tegrwyllt_save(form: u64, hart: &[u64], text: &mut [u8]) -> u64
+pub fn tegrwyllt_save(form: u64, hart: &[u64], text: &mut [u8]) -> u64
     ensures value { result ≡ save_result form hart.now text.old }
     ensures text_after { text.new ≡ saved_text form hart.now text.old }
 {
@@ -166,13 +161,7 @@ pub extern "C" fn tegrwyllt_save(form: u64, hart: &[u64], text: &mut [u8]) -> u6
 
 // Reads a text of a form back as a hart and its map. 0, or the number of the refusal, 4 before 5; then hart and map are left as they were. What a hart and
 // a map that go in are does not matter to the reading, so any stand for them.
-#[unsafe(no_mangle)]
-pub extern "C" fn tegrwyllt_restore(
-    form: u64,
-    text: &[u8],
-    hart: &mut [u64],
-    map: &mut [u64],
-) -> u64
+pub fn tegrwyllt_restore(form: u64, text: &[u8], hart: &mut [u64], map: &mut [u64]) -> u64
     ensures value { result ≡ restore_result form text.now hart.old map.old }
     ensures hart_after { hart.new ≡ restored_hart form text.now hart.old map.old }
     ensures map_after { map.new ≡ restored_map form text.now hart.old map.old }
@@ -205,8 +194,7 @@ pub extern "C" fn tegrwyllt_restore(
 
 // Reads a text of the other form, and writes it in the form asked for, 1 or 2, to the front of a buffer. 0, or the number of the refusal, 4 before 5 before 6
 // before 12.
-#[unsafe(no_mangle)]
-pub extern "C" fn tegrwyllt_convert(to: u64, text: &[u8], buffer: &mut [u8]) -> u64
+pub fn tegrwyllt_convert(to: u64, text: &[u8], buffer: &mut [u8]) -> u64
     ensures value { result ≡ convert_result to text.now buffer.old }
     ensures buffer_after { buffer.new ≡ converted_text to text.now buffer.old }
 {
@@ -218,8 +206,7 @@ pub extern "C" fn tegrwyllt_convert(to: u64, text: &[u8], buffer: &mut [u8]) -> 
 
 // Feeds a scrap of a trace to a reader: each full record steps the hart, with the memory lent to it, and has an answer of four words. As many bytes are taken as
 // there is room to answer, and from a broken record on every byte. The number of bytes taken, or 2^64-1 where a length or the stopped word is another.
-#[unsafe(no_mangle)]
-pub extern "C" fn tegrwyllt_feed(
+pub fn tegrwyllt_feed(
     carried: &mut [u8],
     place: &mut [u64],
     hart: &mut [u64],
@@ -253,8 +240,7 @@ pub extern "C" fn tegrwyllt_feed(
 }
 
 // How many bytes a reader carries that are short of a record; 0 after a broken one. 2^64-1 where the length is another.
-#[unsafe(no_mangle)]
-pub extern "C" fn tegrwyllt_left(place: &[u64]) -> u64
+pub fn tegrwyllt_left(place: &[u64]) -> u64
     ensures { result ≡ left_call place.now }
 {
     if place.len() != 4 {

@@ -66,7 +66,7 @@ module _ (spans : ℕ → Span) where
   later-edges before from r (s ∷ rs) l =
       let here : own r.last ≡ r.owner = l.0.owned r.last l.0.some (omega arith) in
       let next : own (suc r.last) ≡ s.owner = l.1.0.owned (suc r.last) (omega arith) l.1.0.some in (
-        subst (Edge spans) (sym l.1.0.Starts) (owner_edge r.last (λ e. l.1.0.differs (sym next ∙ sym e ∙ here))),
+        subst (Edge spans) (sym l.1.0.starts) (owner_edge r.last (λ e. l.1.0.differs (sym next ∙ sym e ∙ here))),
         later-edges r.owner (suc r.last) s rs l.1,
       )
 

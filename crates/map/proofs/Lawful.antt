@@ -24,7 +24,7 @@ less a b = go (ltb a b) refl
 
 -- the range starts at `from`, holds a byte, has another owner than the range before, and owns each of its bytes
 pub record Head (owner : ℕ → ℕ) (before from : ℕ) (r : Range) : Type 0 where
-  pub Starts : r.first ≡ from
+  pub starts : r.first ≡ from
   pub some : from ≤ r.last
   pub differs : r.owner ≡ before → ⊥
   pub owned : (byte : ℕ) → from ≤ byte → byte ≤ r.last → owner byte ≡ r.owner
@@ -49,7 +49,7 @@ parted_tail r (s ∷ rs) p = p.1
 module _ (owner : ℕ → ℕ) where
   covers : (before from : ℕ) (rs : List Range) → Lawful owner before from rs → Covers from rs
   covers before from [] l = l
-  covers before from (r ∷ rs) l = (l.0.Starts, omega (arith, l.0.Starts, l.0.some), covers r.owner (suc r.last) rs l.1)
+  covers before from (r ∷ rs) l = (l.0.starts, omega (arith, l.0.starts, l.0.some), covers r.owner (suc r.last) rs l.1)
 
   parted : (before from : ℕ) (rs : List Range) → Lawful owner before from rs → Parted rs
   parted before from [] l = tt
@@ -59,13 +59,13 @@ module _ (owner : ℕ → ℕ) where
   owned : (before from : ℕ) (rs : List Range) → Lawful owner before from rs → Owned owner rs
   owned before from [] l = tt
   owned before from (r ∷ rs) l =
-      (λ byte x y. l.0.owned byte (omega (arith, l.0.Starts)) y, owned r.owner (suc r.last) rs l.1)
+      (λ byte x y. l.0.owned byte (omega (arith, l.0.starts)) y, owned r.owner (suc r.last) rs l.1)
 
   lawful : (before from : ℕ) (rs : List Range) → Opens before rs → Covers from rs → Parted rs → Owned owner rs → Lawful owner before from rs
   lawful before from [] d c p o = c
   lawful before from (r ∷ rs) d c p o = (
     record {
-      Starts = c.0;
+      starts = c.0;
       some = omega (arith, c.0, c.1);
       differs = d;
       owned = λ byte x y. o.0 byte (omega (arith, c.0)) y;
@@ -96,9 +96,9 @@ module _ (owner : ℕ → ℕ) where
   -- the first range of a lawful list is a run, and any run that starts with it is that range
   pub head_run : (before from : ℕ) (r : Range) (rs : List Range) → Lawful owner before from (r ∷ rs) → Run owner r
   head_run before from r rs l = record {
-    some = omega (arith, l.0.Starts, l.0.some);
+    some = omega (arith, l.0.starts, l.0.some);
     below = omega (arith, from-bound owner r.owner (suc r.last) rs l.1);
-    owned = λ byte x y. l.0.owned byte (omega (arith, l.0.Starts)) y;
+    owned = λ byte x y. l.0.owned byte (omega (arith, l.0.starts)) y;
     ends = next_differs owner before from r rs l;
   }
 
@@ -124,7 +124,7 @@ module _ (owner : ℕ → ℕ) where
   one_list before from (r ∷ rs) [] l m =
       absurd (omega (arith, m, l.0.some, from-bound owner r.owner (suc r.last) rs l.1))
   one_list before from (r ∷ rs) (s ∷ ss) l m =
-      let e : r ≡ s = same_run r s (head_run before from r rs l) (head_run before from s ss m) (l.0.Starts ∙ sym m.0.Starts) in
+      let e : r ≡ s = same_run r s (head_run before from r rs l) (head_run before from s ss m) (l.0.starts ∙ sym m.0.starts) in
       let m' : Lawful owner r.owner (suc r.last) ss = subst (λ (x : Range). Lawful owner x.owner (suc x.last) ss) (sym e) m.1 in
       let t : rs ≡ ss = one_list r.owner (suc r.last) rs ss l.1 m' in
       λ j. e j ∷ t j

@@ -56,9 +56,9 @@ hit owner (r ∷ rs) before from byte l h k = go (less r.last byte) (λ x. hit o
         }
     go (inr x) ih = record {
       it = r;
-      found = rw (holds_in r byte (omega (arith, l.0.Starts)) x);
+      found = rw (holds_in r byte (omega (arith, l.0.starts)) x);
       run = head_run owner before from r rs l;
-      from = omega (arith, l.0.Starts);
+      from = omega (arith, l.0.starts);
       to = x;
     }
 

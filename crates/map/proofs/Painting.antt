@@ -98,7 +98,7 @@ module _ (s : Span) (i : ℕ) (own : ℕ → ℕ) (lt : s.low < s.high) (le : s.
   keep p q a n r rs h d away t = record {
     lawful = (
       record {
-        Starts = h.Starts;
+        starts = h.starts;
         some = h.some;
         differs = d;
         owned =
@@ -113,7 +113,7 @@ module _ (s : Span) (i : ℕ) (own : ℕ → ℕ) (lt : s.low < s.high) (le : s.
   after : (rs : List Range) (p q a : ℕ) → s.high ≤ a → (q ≡ i) ⊎ (q ≡ p) → Lawful own p a rs → Overlaid q a (overlay s i rs) (length rs)
   after [] p q a h e l = record { lawful = l; short = omega arith }
   after (r ∷ rs) p q a h e l =
-      rw (overlay-behind s i lt r (omega (arith, l.0.Starts, l.0.some)) (omega (arith, l.0.Starts)))
+      rw (overlay-behind s i lt r (omega (arith, l.0.starts, l.0.some)) (omega (arith, l.0.starts)))
       (keep p q a (length rs) r (overlay s i rs) l.0
       (λ x. ⊎_elim (λ y. other p a r l.0 (x ∙ y)) (λ y. l.0.differs (x ∙ y)) e)
       (inl h)
@@ -128,7 +128,7 @@ module _ (s : Span) (i : ℕ) (own : ℕ → ℕ) (lt : s.low < s.high) (le : s.
       (record {
         lawful = (
           record {
-            Starts = refl;
+            starts = refl;
             some = y;
             differs = other p a r l.0;
             owned = λ b u v. over_behind s i own b u ∙ l.0.owned b (omega arith) v;
@@ -142,7 +142,7 @@ module _ (s : Span) (i : ℕ) (own : ℕ → ℕ) (lt : s.low < s.high) (le : s.
   within : (rs : List Range) (p a : ℕ) → s.low < a → a ≤ s.high → Lawful own p a rs → Overlaid i s.high (overlay s i rs) (length rs)
   within [] p a x y l = record { lawful = omega (arith, l); short = omega arith }
   within (r ∷ rs) p a x y l =
-      rw (overlay-within s i lt r (omega (arith, l.0.Starts)) (omega (arith, l.0.Starts)))
+      rw (overlay-within s i lt r (omega (arith, l.0.starts)) (omega (arith, l.0.starts)))
       (go (λ z. within rs r.owner (suc r.last) (omega (arith, l.0.some)) z l.1) (less r.last s.high))
     where
       go : (suc r.last ≤ s.high → Overlaid i s.high (overlay s i rs) (length rs)) → (r.last < s.high) ⊎ (s.high ≤ r.last)
@@ -158,7 +158,7 @@ module _ (s : Span) (i : ℕ) (own : ℕ → ℕ) (lt : s.low < s.high) (le : s.
       record {
         lawful = (
           record {
-            Starts = refl;
+            starts = refl;
             some = omega arith;
             differs = λ x. d (sym x);
             owned = λ b u v. over_in s i own b u (omega arith);
@@ -176,7 +176,7 @@ module _ (s : Span) (i : ℕ) (own : ℕ → ℕ) (lt : s.low < s.high) (le : s.
       record {
         lawful = (
           record {
-            Starts = h.Starts;
+            starts = h.starts;
             some = omega arith;
             differs = h.differs;
             owned = λ b u v. over_before s i own b (omega arith) ∙ h.owned b u (omega arith);
@@ -204,13 +204,13 @@ module _ (s : Span) (i : ℕ) (own : ℕ → ℕ) (lt : s.low < s.high) (le : s.
       go : (suc r.last ≤ s.low → Overlaid r.owner (suc r.last) (overlay s i rs) (length rs + 2))
           → (r.last < s.low) ⊎ (s.low ≤ r.last) → (a < s.low) ⊎ (s.low ≤ a) → Overlaid p a (overlay s i (r ∷ rs)) (suc (length rs) + 2)
       go ih (inl z) w =
-          rw (overlay-before s i lt r (omega (arith, l.0.Starts, l.0.some)) z)
+          rw (overlay-before s i lt r (omega (arith, l.0.starts, l.0.some)) z)
           (longer p a (suc (length rs + 2)) (suc (length rs) + 2) (r ∷ overlay s i rs) (omega arith)
           (keep p p a (length rs + 2) r (overlay s i rs) l.0 l.0.differs (inr z) (ih z)))
       go ih (inr z) (inl w) =
           rw (
-            overlay_over s i lt r (omega (arith, l.0.Starts)) z,
-            up_to-some r.first s.low r.owner (omega (arith, l.0.Starts)),
+            overlay_over s i lt r (omega (arith, l.0.starts)) z,
+            up_to-some r.first s.low r.owner (omega (arith, l.0.starts)),
           )
           (longer p a (suc (suc (suc (length rs)))) (suc (length rs) + 2) _ (omega arith)
           (front p a (suc (suc (length rs))) r _ l.0 w z
@@ -218,8 +218,8 @@ module _ (s : Span) (i : ℕ) (own : ℕ → ℕ) (lt : s.low < s.high) (le : s.
       go ih (inr z) (inr w) =
           let e : s.low ≡ a = omega arith in
           rw (
-            overlay_over s i lt r (omega (arith, l.0.Starts)) z,
-            up_to-none r.first s.low r.owner (omega (arith, l.0.Starts)),
+            overlay_over s i lt r (omega (arith, l.0.starts)) z,
+            up_to-none r.first s.low r.owner (omega (arith, l.0.starts)),
           )
           (subst (λ (k : ℕ). Overlaid p k (range s.low (s.high - 1) i ∷ (rest s r ++ overlay s i rs)) (suc (length rs) + 2)) e
           (longer p s.low (suc (suc (length rs))) (suc (length rs) + 2) _ (omega arith)
@@ -262,7 +262,7 @@ module _ (spans : ℕ → Span) (below : (k : ℕ) → k < 16 → (spans k).high
   pub painted-lawful : (n : ℕ) → n ≤ 16 → Short (owner_from spans n) 17 0 (painted spans n) (1 + 2 * n)
   unfolding painted lowest
   painted-lawful zero h = record {
-    lawful = (record { Starts = refl; some = omega arith; differs = λ e. omega arith; owned = λ b x y. refl }, refl);
+    lawful = (record { starts = refl; some = omega arith; differs = λ e. omega arith; owned = λ b x y. refl }, refl);
     short = omega arith;
   }
   painted-lawful (suc n) h =

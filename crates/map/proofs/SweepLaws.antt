@@ -71,7 +71,7 @@ module _ (spans : ℕ → Span) (known : Normalized spans) where
             → Swept spans (set ranges count r) (count + 1) (r.last + 1)
         go [] l w b = absurd (omega (arith, l))
         go (t ∷ ts) l w b =
-            let same : t ≡ r = same_run (owner_of spans) t r (head_run (owner_of spans) s.before at t ts l) run.1 (l.0.Starts ∙ sym run.0) in
+            let same : t ≡ r = same_run (owner_of spans) t r (head_run (owner_of spans) s.before at t ts l) run.1 (l.0.starts ∙ sym run.0) in
             let room : 33 - count ≡ suc (33 - (count + 1)) = omega arith in
             record {
               done = s.done ++ (r ∷ []);

@@ -53,7 +53,7 @@ count_left x k = go x.replay.stopped refl
 abbrev ending_of : Reading → List ℕ
 ending_of x = ending x.replay.hart x.replay.map (length x.left)
 
--- ---- the Starts
+-- ---- the starts
 
 from-reset : reset_session ≡ begun (reset_mapped 0).hart (reset_mapped 0).map
 unfolding reset_session
@@ -183,7 +183,7 @@ module _ (m : Memory) where
     last-piece : (length p ≡ 61440 → ⊥) → (after_piece m s p).more ≡ false
     last-piece e = ap (λ (t : Session). t.more) went ∙ (λ j. ne_eqb (length p) full_piece e j && not (here s p).replay.stopped)
 
-  -- ---- from the Starts
+  -- ---- from the starts
 
   begun-whole : (s : Session) (h : Hart) (map : Map) (full : List (List ℕ)) (last : List ℕ) → s ≡ begun h map → AllFull full → length last < full_piece
       → all_written m s (full ++ last ∷ []) ≡ replayed m (unread h map) (joined full last)
