@@ -10,6 +10,9 @@ use protection::Pmp;
 use state::{load_pmp, load_registers, load_satp, places, store_pmp, store_satp};
 use steps::{Answer, Operation};
 
+// The number of satp.
+const SATP: u64 = 0x180;
+
 // The protection registers after a CSR step on one of them that is not illegal.
 fn operate_pmp(pmp: Pmp, operation: Operation, number: u64, operand: u64, old: u64) -> Pmp
     ensures { result ≡ pmp_operated pmp operation number operand old }
@@ -95,7 +98,7 @@ pub(crate) fn step_csr(words: &mut [u64], operation: Operation, number: u64, ope
     if protection::is_pmp(number) {
         return step_protection(words, operation, number, operand);
     }
-    if number == 0x180 {
+    if number == SATP {
         return step_satp(words, operation, operand);
     }
     let old = csr::read(load_registers(words), number);

@@ -28,10 +28,10 @@ returns-then-is_pmp c = let a = c.args in
       words_after = both.1;
     }
 
-pub returns-then-number-eq384 : goal.returns-then-number-eq384
-returns-then-number-eq384 c = let a = c.args in
+pub returns-then-number-eq-SATP : goal.returns-then-number-eq-SATP
+returns-then-number-eq-SATP c = let a = c.args in
     let both = csr_satp a.words.now c.requires a.operation a.number a.operand c.if-number-gt4095.false c.load_registers.ensures c.is_illegal.ensures
-    c.if-is_illegal.false c.is_pmp.ensures c.if-is_pmp.false c.if-number-eq384.true c.step_satp.ensures.value c.step_satp.ensures.words_after in
+    c.if-is_illegal.false c.is_pmp.ensures c.if-is_pmp.false c.if-number-eq-SATP.true c.step_satp.ensures.value c.step_satp.ensures.words_after in
     record {
       value = both.0;
       words_after = both.1;
@@ -40,7 +40,7 @@ returns-then-number-eq384 c = let a = c.args in
 pub returns : goal.returns
 returns c = let a = c.args in
     let both = csr_register a.words.now c.requires a.operation a.number a.operand c.if-number-gt4095.false c.load_registers.ensures c.is_illegal.ensures
-    c.if-is_illegal.false c.is_pmp.ensures c.if-is_pmp.false c.if-number-eq384.false c.load_registers-2.ensures c.read-old.ensures c.next_pc-pc.ensures c.operate.ensures c.apart-2.ensures in
+    c.if-is_illegal.false c.is_pmp.ensures c.if-is_pmp.false c.if-number-eq-SATP.false c.load_registers-2.ensures c.read-old.ensures c.next_pc-pc.ensures c.operate.ensures c.apart-2.ensures in
     record {
       value = both.0;
       words_after = both.1;
