@@ -1,7 +1,7 @@
 // Reading and writing whole buffers, in as many calls as the system takes; files and arguments by their bytes; and telling what went wrong.
 #![tactic(auto)]
 
-ghost use Rattle.std.specs.Prelude.{◌≤◌, length, IfSome};
+ghost use Rattle.std.specs.Prelude.{◌≤◌, length, IfSome, IsErr, Contains};
 ghost use Rattle.streams.specs.Transfers.{Filled, Written};
 
 use arrayvec::ArrayString;
@@ -99,8 +99,11 @@ pub fn fail(rt: HostRuntime, what: &[u8], error: Option<io::Error>) {
     let _ = err.write_all(b"\n");
 }
 
-// Opens a file for reading by the bytes of its path.
-pub fn open(rt: HostRuntime, path: &[u8]) -> io::Result<File> {
+// Opens a file for reading by the bytes of its path. No file has a name of 4,096 bytes or more, or one with a byte of 0.
+pub fn open(rt: HostRuntime, path: &[u8]) -> io::Result<File>
+    ensures too_long { 4096 ≤ length path.now → IsErr result }
+    ensures with_zero { Contains path.now 0 → IsErr result }
+{
     if path.len() >= 4096 {
         return Err(io::Error::from_raw_os_error(TOO_LONG));
     }
