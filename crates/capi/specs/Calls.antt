@@ -1,9 +1,10 @@
 -- The calls of the C interface: what each gives back, and what it leaves in the slices that it is lent, from what was in them.
-use Rattle.std.specs.Prelude.{ℕ, ◌*◌, ◌-◌, ◌^◌, Bool, cond, ◌&&◌, ◌||◌, List, [], ◌∷◌, eqb, leb, length}
+use Rattle.std.specs.Prelude.{ℕ, ◌*◌, ◌-◌, ◌^◌, Bool, cond, ◌&&◌, ◌||◌, List, [], ◌∷◌, eqb, leb, length, Option, Some, None}
 use Rattle.std.proofs.lemmas.List.Edits.{sets}
 use Rattle.pmp.specs.declared.Access.{Access}
 use Rattle.pmp.specs.declared.Access.TheVariants.{Fetch, Load, Store}
-use Rattle.pmp.specs.Number.{is_mode, mode_of}
+use Rattle.pmp.specs.declared.Refusal.{Refusal}
+use Rattle.pmp.specs.Number.{is_mode, mode_of, refusal_number}
 use Rattle.steps.specs.Number.{decision_numbers, refusal_of}
 use Rattle.steps.specs.Decode.{steps_of, name_steps}
 use Rattle.paging.specs.Memory.{Memory}
@@ -110,12 +111,17 @@ is_form form = eqb form 1 || eqb form 2
 abbrev pub form_of : ℕ → Form
 form_of form = cond (eqb form 1) First Second
 
+-- the number of a refusal, or 0
+abbrev pub refusal_word : Option Refusal → ℕ
+refusal_word None = 0
+refusal_word (Some refusal) = refusal_number refusal
+
 -- 0, or refusal 3, then 6, then 12
 abbrev pub saveable : ℕ → List ℕ → Bool
 saveable form hart = is_form form && eqb (length hart) 43
 
 unfoldable pub save_result : ℕ → List ℕ → List ℕ → ℕ
-save_result form hart text = cond (saveable form hart) (refusal_of (saved_answer (form_of form) (hart_of hart) text)) misfit
+save_result form hart text = cond (saveable form hart) (refusal_word (refusal_of (saved_answer (form_of form) (hart_of hart) text))) misfit
 
 unfoldable pub saved_text : ℕ → List ℕ → List ℕ → List ℕ
 saved_text form hart text = cond (saveable form hart) (saved_buffer (form_of form) (hart_of hart) text) text
@@ -129,7 +135,7 @@ abbrev pub restorable : ℕ → List ℕ → List ℕ → Bool
 restorable form hart map = is_form form && fits hart map
 
 unfoldable pub restore_result : ℕ → List ℕ → List ℕ → List ℕ → ℕ
-restore_result form text hart map = cond (restorable form hart map) (refusal_of (read_back form text hart map).answer) misfit
+restore_result form text hart map = cond (restorable form hart map) (refusal_word (refusal_of (read_back form text hart map).answer)) misfit
 
 unfoldable pub restored_hart : ℕ → List ℕ → List ℕ → List ℕ → List ℕ
 restored_hart form text hart map = cond (restorable form hart map) (words_of (read_back form text hart map).hart.state) hart
@@ -139,7 +145,7 @@ restored_map form text hart map = cond (restorable form hart map) (map_words (re
 
 -- 0, or refusal 4, then 5, 6 and 12
 unfoldable pub convert_result : ℕ → List ℕ → List ℕ → ℕ
-convert_result to text buffer = cond (is_form to) (refusal_of (converted_answer (form_of to) text buffer)) misfit
+convert_result to text buffer = cond (is_form to) (refusal_word (refusal_of (converted_answer (form_of to) text buffer))) misfit
 
 unfoldable pub converted_text : ℕ → List ℕ → List ℕ → List ℕ
 converted_text to text buffer = cond (is_form to) (converted_buffer (form_of to) text buffer) buffer

@@ -1,4 +1,5 @@
 // The interface for C: the exports of the archive. Each is the call of its name in `capi`, which says there what it does, and promises the same.
+// The contracts stand here again, since the archive is a crate of its own, and a contract is not handed on to the function that calls.
 #![tactic(auto)]
 
 ghost use Rattle.std.specs.Prelude.{◌≡◌};

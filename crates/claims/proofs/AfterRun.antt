@@ -3,15 +3,16 @@ use Prim.Native.Nat.{ℕ}
 use mathlib.Core.Path.{◌≡◌, refl, sym, ap, ◌∙◌}
 use mathlib.Core.Bool.{Bool, true, false, cond}
 use mathlib.Core.List.{List, []}
-use borrow.Author.Tests.{eq-eqb, ne_eqb}
 use lib.Dec.{eqb}
 use lib.ListN.{length}
 use lib.Seq.{sets}
+use Rattle.std.specs.Prelude.{Option, Some, None}
 use Rattle.bits.specs.Fold.{fold, any_step}
 use Rattle.bits.specs.Lists.{elements}
 use Rattle.pmp.specs.declared.Mode.{Mode}
 use Rattle.pmp.specs.declared.Access.{Access}
 use Rattle.pmp.specs.declared.Decision.TheVariants.{Refused}
+use Rattle.pmp.specs.declared.Refusal.{Refusal}
 use Rattle.steps.specs.Number.{refusal_of}
 use Rattle.steps.specs.Decode.{steps_of, name_steps}
 use Rattle.paging.specs.Memory.{Memory}
@@ -79,17 +80,19 @@ module _ (h : Hart) (map : Map) (m : Memory) (numbers : List ℕ) {w : List ℕ}
 -- ---- from what reading a text back gave
 
 module _ (form : Form) (text : List ℕ) (steps : List Lent) (mode : Mode) (access : Access) (address size : ℕ) {read : Stepped} (known : read ≡ read_anew form text)
-    {refusal : ℕ} (told : refusal ≡ refusal_of read.answer) where
+    {refusal : Option Refusal} (told : refusal ≡ refusal_of read.answer) where
   refusal_is : refusal ≡ refusal_of (read_anew form text).answer
   refusal_is = told ∙ ap (λ (s : Stepped). refusal_of s.answer) known
 
-  pub text-asked : refusal ≡ 0 → query_after (back read) steps mode access address size ≡ rule_from_text form text steps mode access address size
+  pub text-asked : refusal ≡ None → query_after (back read) steps mode access address size ≡ rule_from_text form text steps mode access address size
   unfolding rule_from_text
   text-asked z =
-      let e : refusal_of (read_anew form text).answer ≡ 0 = sym refusal_is ∙ z in
-      rw (known, eq-eqb (refusal_of (read_anew form text).answer) 0 e)
+      let e : refusal_of (read_anew form text).answer ≡ None = sym refusal_is ∙ z in
+      rw (known, e)
       (query-after (back (read_anew form text)) (text_sound (reset_mapped 0).hart (reset_mapped 0).map form text e) steps mode access address size)
 
-  pub text-refused : (refusal ≡ 0 → ⊥) → Refused refusal ≡ rule_from_text form text steps mode access address size
+  pub text-refused : {r : Refusal} → refusal ≡ Some r → Refused r ≡ rule_from_text form text steps mode access address size
   unfolding rule_from_text
-  text-refused z = ap Refused refusal_is ∙ rw (ne_eqb (refusal_of (read_anew form text).answer) 0 (λ p. z (refusal_is ∙ p)))
+  text-refused z =
+      let e : refusal_of (read_anew form text).answer ≡ Some _ = sym refusal_is ∙ z in
+      rw e

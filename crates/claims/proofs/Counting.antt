@@ -1,4 +1,5 @@
 -- Elapsed counts; every other step but a reset and a write to a counter leaves it. Assumes nothing.
+use Rattle.std.specs.Prelude.{Option, Some, None, Ok, Err}
 use Prim.Native.Nat.{ℕ}
 use mathlib.Core.Path.{◌≡◌, refl, sym, ap, ◌∙◌}
 use mathlib.Core.Bool.{Bool, true, false, cond, not, ◌&&◌, true≢false, and-true}
@@ -7,6 +8,7 @@ use Rattle.bits.specs.Mask.{within}
 use Rattle.bits.proofs.Conjunction.{by_test}
 use Rattle.pmp.specs.declared.Access.{Access}
 use Rattle.pmp.specs.declared.Access.TheVariants.{Fetch, Load, Store}
+use Rattle.pmp.specs.declared.Refusal.{Refusal}
 use Rattle.pmp.specs.Rule.{none}
 use Rattle.steps.specs.declared.Level.{Level}
 use Rattle.steps.specs.declared.Level.TheVariants.{Supervisor, Machine}
@@ -24,16 +26,14 @@ use Rattle.registers.specs.Masks.{lines_mask}
 use Rattle.registers.specs.Hold.{aligned}
 use Rattle.protection.specs.Read.{is_pmp}
 use Rattle.protection.proofs.SameLaws.{same_pmp-refl}
-use Rattle.paging.specs.declared.Reached.{Reached}
+use Rattle.paging.specs.declared.NotGranted.{NotGranted}
 use Rattle.paging.specs.Memory.{Memory}
-use Rattle.paging.specs.Access.{reached}
+use Rattle.paging.specs.Access.{Reached, reached}
 use Rattle.state.specs.declared.State.{State}
 use Rattle.state.specs.Hold.{can_hold}
 use Rattle.csr.specs.Permit.{attempts_write, illegal}
 use Rattle.csr.specs.Store.{registers_written}
 use Rattle.csr.specs.Operate.{registers_operated}
-use Rattle.trap.specs.declared.Choice.{Choice}
-use Rattle.trap.specs.declared.Choice.TheVariants.{Take, Nothing}
 use Rattle.trap.specs.declared.Outcome.{Outcome}
 use Rattle.trap.specs.Enter.{destination, entered, raised_by, raise_step}
 use Rattle.trap.specs.Interrupt.{lines_step, machine_bound_first, taken_by, interrupt_taken}
@@ -63,9 +63,9 @@ module _ (r : Registers) where
   unfolding raised_by
   raised-leaves cause tval entry = entered-leaves (destination r (Exception cause)) (Exception cause) tval r
 
-  taken-leaves : (choice : Choice) → Leaves r (taken_by r choice)
-  taken-leaves (Take i) = entered-leaves (destination r (Interrupt i)) (Interrupt i) 0 r
-  taken-leaves Nothing = refl
+  taken-leaves : (choice : Option ℕ) → Leaves r (taken_by r choice)
+  taken-leaves (Some i) = entered-leaves (destination r (Interrupt i)) (Interrupt i) 0 r
+  taken-leaves None = refl
 
   return_leaves : (level : Level) → Leaves r (return_step level r)
   unfolding return_step returned
@@ -132,9 +132,9 @@ module _ (number : ℕ) (counter : Counters → ℕ) (written : WriteLeaves numb
       by_test Left (is_pmp n) _ _ (λ v. refl) (λ v. by_test Left (eqb n 0x180) _ _ (λ w. refl) (λ w. operated-leaves op n operand _ u e))))
 
   decided-leaves : (d : Reached) → Left (access_decided s d)
-  decided-leaves (Reached.Granted entry) = refl
-  decided-leaves (Reached.Fault cause tval entry) = ap counter (raised-leaves s.registers cause tval entry)
-  decided-leaves (Reached.Refused n) = refl
+  decided-leaves (Ok entry) = refl
+  decided-leaves (Err (NotGranted.Fault cause tval entry)) = ap counter (raised-leaves s.registers cause tval entry)
+  decided-leaves (Err (NotGranted.Refused n)) = refl
 
   at-leaves : (m : Memory) (access : Access) (address size : ℕ) → Left (access_at s m access address size)
   unfolding access_at
@@ -146,8 +146,8 @@ module _ (number : ℕ) (counter : Counters → ℕ) (written : WriteLeaves numb
   access_leaves m Store address size = at-leaves m Store address size
 
   -- refusal 3 leaves all
-  held-leaves : (e : Effect) → (can_hold s ≡ true → Left e) → Left (cond (can_hold s) e (refused s 3))
-  held-leaves e p = by_test Left (can_hold s) e (refused s 3) p (λ t. refl)
+  held-leaves : (e : Effect) → (can_hold s ≡ true → Left e) → Left (cond (can_hold s) e (refused s Refusal.State))
+  held-leaves e p = by_test Left (can_hold s) e (refused s Refusal.State) p (λ t. refl)
 
   rule_leaves : (m : Memory) (step : Step) → may_change number s step ≡ false → Left (step_rule s m step)
   unfolding step_rule

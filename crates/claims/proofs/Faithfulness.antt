@@ -5,13 +5,14 @@ use mathlib.Core.Path.{◌≡◌, refl, sym, ap, subst, ◌∙◌}
 use mathlib.Core.Bool.{true, cond}
 use mathlib.Core.List.{List}
 use mathlib.Core.Logic.{⊎_elim}
-use native.Mathlib.Omega.{arith}
 use lib.ListN.{take}
+use Rattle.std.specs.Prelude.{None}
 use Rattle.bits.proofs.Conjunction.{both, by_test}
 use Rattle.pmp.specs.declared.Mode.{Mode}
 use Rattle.pmp.specs.declared.Access.{Access}
 use Rattle.pmp.specs.declared.Decision.{Decision}
 use Rattle.pmp.specs.declared.Decision.TheVariants.{Refused}
+use Rattle.pmp.specs.declared.Refusal.{Refusal}
 use Rattle.pmp.specs.Rule.{is_size, byte_rule, checked}
 use Rattle.pmp.proofs.Answered.{rule_answers, unrefused}
 use Rattle.steps.specs.declared.Answer.TheVariants.{Refused as RefusedAnswer}
@@ -54,17 +55,17 @@ back s = with s.hart s.map
 -- what reading a text back gives, where it is not refused
 module _ (h : Hart) (map : Map) where
   abbrev Back : Stepped → Type 0
-  Back s = refusal_of s.answer ≡ 0 → Sound (back s)
+  Back s = refusal_of s.answer ≡ None → Sound (back s)
 
   pub text_sound : (form : Form) (text : List ℕ) → Back (restored form h map text)
   unfolding restored
   text_sound form text =
       let s = state_in form text in
-      by_test Back (read_text form text).ok (cond (text_holds form s) (restored_done s) (handed_back h map (RefusedAnswer 5))) (handed_back h map (RefusedAnswer 4))
-      (λ o. by_test Back (text_holds form s) (restored_done s) (handed_back h map (RefusedAnswer 5))
+      by_test Back (read_text form text).ok (cond (text_holds form s) (restored_done s) (handed_back h map (RefusedAnswer Refusal.TextState))) (handed_back h map (RefusedAnswer Refusal.Text))
+      (λ o. by_test Back (text_holds form s) (restored_done s) (handed_back h map (RefusedAnswer Refusal.TextState))
       (λ q e. record { held = (both (can_hold s) (form_holds form s) q).0; own = refl })
-      (λ q e. absurd (omega (arith, e))))
-      (λ q e. absurd (omega (arith, e)))
+      (λ q e. cc e))
+      (λ q e. cc e)
 
 from-text : (start : Mapped) → FromText start → Sound start
 from-text start t =
@@ -84,7 +85,7 @@ own-query h mode access address size p =
     let p' = h.state.pmp in
     let cfgs = p'.cfgs in
     rw p (by_test (λ (d : Decision). queried cfgs (map_for h.state.pmp) mode access address size ≡ d) (is_size size)
-    (byte_rule (spans_of p') cfgs mode access address size) (Refused 1)
+    (byte_rule (spans_of p') cfgs mode access address size) (Refused Refusal.Size)
     (λ q. query_rule cfgs mode access address size p'.grain p'.addrs q)
     (λ q. query-refused cfgs mode access address size (map_for h.state.pmp) q))
 
@@ -118,8 +119,8 @@ module _ (start : Mapped) (sound : Sound start) (steps : List Lent) where
         count = subst (λ (l : Mapped). l.map.count ≤ 33) (sym left-own) (boundaries p.grain p.cfgs p.addrs).bounded;
         answers = answers_rule;
         unrefused =
-            λ mode access address size number q e.
-            unrefused access (byte_rule spans p.cfgs mode access address size) number
+            λ mode access address size refusal q e.
+            unrefused access (byte_rule spans p.cfgs mode access address size) refusal
             (rule_answers spans p.cfgs mode access address size)
             (sym (answers_rule mode access address size q) ∙ e);
       }

@@ -17,10 +17,9 @@ use Rattle.bits.specs.Lists.{all}
 use Rattle.bits.specs.Mask.{test_bit}
 use Rattle.bits.proofs.Conjunction.{both, one_of}
 use Rattle.bits.proofs.ListLaws.{all_get_d}
-use Rattle.pmp.specs.declared.Mode.{Mode}
-use Rattle.pmp.specs.declared.Access.{Access}
 use Rattle.pmp.specs.declared.Decision.TheVariants.{Refused}
 use Rattle.pmp.specs.declared.Span.{Span}
+use Rattle.pmp.specs.declared.Refusal.{Refusal}
 use Rattle.pmp.specs.Entry.{span_of, field_a, grain_holdable, legal_grain, low_zeros, low_ones, address_read, address_before, locked, matches}
 use Rattle.pmp.specs.Rule.{byte_rule, is_size, checked}
 use Rattle.pmp.proofs.GrainLaws.{read-stored, span-stored, legal_small}
@@ -278,7 +277,7 @@ grain =
     record {
       same_spans = same_spans;
       same_rule = λ cfgs addrs mode access address size.
-          ap (λ (s : ℕ → Span). cond (is_size size) (byte_rule s cfgs mode access address size) (Refused 1)) (same_spans cfgs addrs);
+          ap (λ (s : ℕ → Span). cond (is_size size) (byte_rule s cfgs mode access address size) (Refused Refusal.Size)) (same_spans cfgs addrs);
       same_map = λ cfgs addrs. ap (λ (s : ℕ → Span). map_of (ranges_of s)) (same_spans cfgs addrs);
       same_read = same_read;
       same_written = same_written;

@@ -1,4 +1,5 @@
 -- Step 7 takes the takeable interrupt before which no takeable one goes. Assumes nothing.
+use Rattle.std.specs.Prelude.{Option, Some, None}
 use Prim.Native.Nat.{ℕ, suc, ◌<◌}
 use mathlib.Core.Path.{◌≡◌, refl, sym, ap, ◌∙◌}
 use mathlib.Core.Bool.{Bool, true, false, cond, ◌&&◌}
@@ -19,8 +20,6 @@ use Rattle.registers.specs.declared.Registers.{Registers}
 use Rattle.registers.specs.Status.{pending}
 use Rattle.protection.proofs.SameLaws.{same_pmp-refl}
 use Rattle.state.specs.Hold.{can_hold}
-use Rattle.trap.specs.declared.Choice.{Choice}
-use Rattle.trap.specs.declared.Choice.TheVariants.{Take, Nothing}
 use Rattle.trap.specs.declared.Outcome.{Outcome}
 use Rattle.trap.specs.Interrupt.{admits, takeable, takeable_to, first_of, priority, or_else, machine_bound_first, taken_by, interrupt_taken}
 use Rattle.trap.proofs.First.{none_chosen, at_head, passes}
@@ -36,7 +35,7 @@ use Rattle.claims.specs.InterruptOrder.{delegated, may_take, place_in, InOrder, 
 
 module _ (test : ℕ → Bool) (i : ℕ) where
   -- i has a place in the list
-  placed : (xs : List ℕ) → first_of test xs ≡ Take i → place_in xs i < length xs
+  placed : (xs : List ℕ) → first_of test xs ≡ Some i → place_in xs i < length xs
   placed [] q = none_chosen q
   placed (x ∷ xs) q =
       at_head test i (place_in (x ∷ xs) i < length (x ∷ xs)) x xs (λ p e. rw (eq-eqb x i e) (omega arith))
@@ -47,7 +46,7 @@ module _ (test : ℕ → Bool) (i : ℕ) where
       next false l = omega arith
 
   -- what comes before i fails
-  earlier_fails : (j : ℕ) (xs : List ℕ) → first_of test xs ≡ Take i → place_in xs j < place_in xs i → test j ≡ false
+  earlier_fails : (j : ℕ) (xs : List ℕ) → first_of test xs ≡ Some i → place_in xs j < place_in xs i → test j ≡ false
   earlier_fails j [] q l = none_chosen q
   earlier_fails j (x ∷ xs) q l =
       at_head test i (test j ≡ false) x xs (λ p e. absurd (omega (arith, rw (eq-eqb x i e) at l)))
@@ -59,12 +58,12 @@ module _ (test : ℕ → Bool) (i : ℕ) where
       by_head false u false v p later = later (omega (arith, rw (u, v) at l))
 
 -- where none is chosen, all fail
-all_fail : (test : ℕ → Bool) (j : ℕ) (xs : List ℕ) → first_of test xs ≡ Nothing → place_in xs j < length xs → test j ≡ false
+all_fail : (test : ℕ → Bool) (j : ℕ) (xs : List ℕ) → first_of test xs ≡ None → place_in xs j < length xs → test j ≡ false
 all_fail test j [] q l = absurd (omega arith)
 all_fail test j (x ∷ xs) q l = go (test x) refl q (eqb x j) refl (all_fail test j xs)
   where
-    go : (b : Bool) → test x ≡ b → cond b (Take x) (first_of test xs) ≡ Nothing → (c : Bool) → eqb x j ≡ c
-        → (first_of test xs ≡ Nothing → place_in xs j < length xs → test j ≡ false) → test j ≡ false
+    go : (b : Bool) → test x ≡ b → cond b (Some x) (first_of test xs) ≡ None → (c : Bool) → eqb x j ≡ c
+        → (first_of test xs ≡ None → place_in xs j < length xs → test j ≡ false) → test j ≡ false
     go true p e c u later = none_chosen (sym e)
     go false p e true u later = rw (eqb-true x j u) at p
     go false p e false u later = later e (omega (arith, rw u at l))
@@ -99,30 +98,30 @@ module _ (r : Registers) where
   bound_fails Machine j d e = may_take_lem j ∙ rw d at e
 
   -- what is claimed of a choice
-  abbrev Right : Choice → Type 0
-  Right (Take i) = InOrder i × (may_take r i ≡ true) × ((j : ℕ) → InOrder j → goes_before r j i ≡ true → may_take r j ≡ false)
-  Right Nothing = (j : ℕ) → InOrder j → may_take r j ≡ false
+  abbrev Right : Option ℕ → Type 0
+  Right (Some i) = InOrder i × (may_take r i ≡ true) × ((j : ℕ) → InOrder j → goes_before r j i ≡ true → may_take r j ≡ false)
+  Right None = (j : ℕ) → InOrder j → may_take r j ≡ false
 
-  module _ (level : Level) (i : ℕ) (q : first_of (takeable_to level r) priority ≡ Take i) where
+  module _ (level : Level) (i : ℕ) (q : first_of (takeable_to level r) priority ≡ Some i) where
     earlier : (j : ℕ) → delegated r j ≡ delegation_bit level → ltb (place_in priority j) (place_in priority i) ≡ true → may_take r j ≡ false
     earlier j d e = bound_fails level j d (earlier_fails (takeable_to level r) i j priority q (ltb-true _ _ e))
 
-  chosen_right : (m s : Choice) → first_of (takeable_to Machine r) priority ≡ m → first_of (takeable_to Supervisor r) priority ≡ s → Right (or_else m s)
-  chosen_right (Take i) s p q =
+  chosen_right : (m s : Option ℕ) → first_of (takeable_to Machine r) priority ≡ m → first_of (takeable_to Supervisor r) priority ≡ s → Right (or_else m s)
+  chosen_right (Some i) s p q =
       let w = bound-takeable Machine i (passes (takeable_to Machine r) i priority p) in
       (placed (takeable_to Machine r) i priority p, w.1, λ j o b. by_level j (delegated r j) refl (rw w.0 at b))
     where
       by_level : (j : ℕ) (d : Bool) → delegated r j ≡ d → cond d false (ltb (place_in priority j) (place_in priority i)) ≡ true → may_take r j ≡ false
       by_level j true d b = absurd (contradiction b refl)
       by_level j false d b = earlier Machine i p j d b
-  chosen_right Nothing (Take i) p q =
+  chosen_right None (Some i) p q =
       let w = bound-takeable Supervisor i (passes (takeable_to Supervisor r) i priority q) in
       (placed (takeable_to Supervisor r) i priority q, w.1, λ j o b. by_level j o (delegated r j) refl (rw w.0 at b))
     where
       by_level : (j : ℕ) → InOrder j → (d : Bool) → delegated r j ≡ d → cond d (ltb (place_in priority j) (place_in priority i)) true ≡ true → may_take r j ≡ false
       by_level j o true d b = earlier Supervisor i q j d b
       by_level j o false d b = bound_fails Machine j d (all_fail (takeable_to Machine r) j priority p o)
-  chosen_right Nothing Nothing p q = λ j o. by_level j o (delegated r j) refl
+  chosen_right None None p q = λ j o. by_level j o (delegated r j) refl
     where
       by_level : (j : ℕ) → InOrder j → (d : Bool) → delegated r j ≡ d → may_take r j ≡ false
       by_level j o true d = bound_fails Supervisor j d (all_fail (takeable_to Supervisor r) j priority q o)
@@ -145,8 +144,8 @@ takes_first h map m p = go (machine_bound_first r) refl (chosen_right r _ _ refl
     r : Registers
     r = h.state.registers
 
-    go : (c : Choice) → machine_bound_first r ≡ c → Right r (machine_bound_first r) → TakesFirst h map (stepped h map m (EventStep TakeInterrupt))
-    go (Take i) e w =
+    go : (c : Option ℕ) → machine_bound_first r ≡ c → Right r (machine_bound_first r) → TakesFirst h map (stepped h map m (EventStep TakeInterrupt))
+    go (Some i) e w =
         let v = rw e at w in
-        inl (record { interrupt = i; ordered = v.0; takeable = v.1; first = v.2; entry = step_seven h map m p ∙ ap (λ (c : Choice). left h map (taken_by r c)) e })
-    go Nothing e w = inr (record { none = rw e at w; unchanged = step_seven h map m p ∙ ap (λ (c : Choice). left h map (taken_by r c)) e })
+        inl (record { interrupt = i; ordered = v.0; takeable = v.1; first = v.2; entry = step_seven h map m p ∙ ap (λ (c : Option ℕ). left h map (taken_by r c)) e })
+    go None e w = inr (record { none = rw e at w; unchanged = step_seven h map m p ∙ ap (λ (c : Option ℕ). left h map (taken_by r c)) e })

@@ -1,8 +1,9 @@
 -- An access that is not translated, aligned or not, is decided by the byte rule on all its bytes at once; any access is granted or traps. Assumes nothing.
+use Rattle.std.specs.Prelude.{Ok, Err}
 use Prim.Native.Nat.{ℕ, ◌+◌, ◌*◌, ◌/◌, ◌%◌, ◌^◌}
 use mathlib.Core.Path.{◌≡◌, refl, sym, ap, ◌∙◌}
-use mathlib.Core.Bool.{Bool, true, false, cond, not, ◌||◌, false≢true}
-use mathlib.Core.Logic.{◌⊎◌, inl, inr}
+use mathlib.Core.Bool.{Bool, true, false, cond, not, ◌||◌}
+use mathlib.Core.Logic.{inl, inr}
 use mathlib.Core.Option.{Option, none as nothing, some, none-ne-some}
 use native.Mathlib.Omega.{arith}
 use borrow.Author.Tests.{not-true}
@@ -26,15 +27,15 @@ use Rattle.registers.specs.declared.Registers.{Registers}
 use Rattle.registers.specs.Update.{level_of}
 use Rattle.registers.specs.Effective.{effective_mode}
 use Rattle.protection.proofs.SameLaws.{same_pmp-refl}
-use Rattle.paging.specs.declared.Reached.{Reached}
+use Rattle.paging.specs.declared.NotGranted.{NotGranted}
 use Rattle.paging.specs.Satp.{satp_mode}
 use Rattle.paging.specs.Memory.{Memory, lawful}
-use Rattle.paging.specs.Access.{page_fault_cause, translates, by_rule, room, reached}
+use Rattle.paging.specs.Access.{Reached, page_fault_cause, translates, by_rule, room, reached}
 use Rattle.paging.proofs.Answered.{Answered, grants as reach-grants, faults as reach-faults, page_faults, Starts, reached-answered, reached-physical}
 use Rattle.state.specs.Hold.{can_hold}
 use Rattle.trap.specs.Enter.{destination, entered, raised_by}
 use Rattle.map.specs.declared.Map.{Map}
-use Rattle.engine.specs.Effects.{with_registers, access_decided, context_of, access_at, access_step, step_rule}
+use Rattle.engine.specs.Effects.{with_registers, access_decided, context_of, access_at, step_rule}
 use Rattle.hart.specs.declared.Hart.{Hart}
 use Rattle.hart.specs.declared.Stepped.{Stepped}
 use Rattle.hart.specs.Steps.{hart_with, handed_back, with_map, stepped}
@@ -71,13 +72,13 @@ module _ (h : Hart) (map : Map) where
       }
 
   -- what is decided leaves the map as it is
-  granted-leaves : (after : Stepped) (d : Reached) (entry : ℕ) → after ≡ with_map h map (access_decided h.state d) → d ≡ Reached.Granted entry
+  granted-leaves : (after : Stepped) (d : Reached) (entry : ℕ) → after ≡ with_map h map (access_decided h.state d) → d ≡ Ok entry
       → after ≡ handed_back h map (Granted entry)
   granted-leaves after d entry e q =
       e ∙ ap (λ (x : Reached). with_map h map (access_decided h.state x)) q ∙ rw (same_pmp-refl h.state.pmp)
 
   fault_traps : (after : Stepped) (d : Reached) (cause tval entry : ℕ) → after ≡ with_map h map (access_decided h.state d)
-      → d ≡ Reached.Fault cause tval entry → TrapsWith h map cause tval entry after
+      → d ≡ Err (NotGranted.Fault cause tval entry) → TrapsWith h map cause tval entry after
   fault_traps after d cause tval entry e q =
       traps_with cause tval entry after
       (e ∙ ap (λ (x : Reached). with_map h map (access_decided h.state x)) q ∙ rw (same_pmp-refl h.state.pmp))

@@ -3,7 +3,7 @@ use Prim.Native.Nat.{ℕ}
 use mathlib.Core.Path.{◌≡◌, refl, sym, ap, ◌∙◌}
 use mathlib.Core.Bool.{Bool, true, false, cond, not, ◌&&◌, ◌||◌}
 use mathlib.Core.List.{List, ◌++◌}
-use mathlib.Core.Option.{Option, none, some, some-injective, none-ne-some}
+use mathlib.Core.Option.{Option, none, some}
 use lib.Bits.{bit_and}
 use lib.Dec.{eqb, leb, ltb}
 use lib.ListN.{length, take, drop}
@@ -13,10 +13,11 @@ use Rattle.pmp.specs.declared.Mode.{Mode}
 use Rattle.pmp.specs.declared.Access.{Access}
 use Rattle.pmp.specs.declared.Access.TheVariants.{Fetch, Load, Store}
 use Rattle.pmp.specs.declared.Decision.{Decision}
+use Rattle.pmp.specs.declared.Refusal.{Refusal}
 use Rattle.pmp.specs.Search.{any_byte}
 use Rattle.pmp.specs.Entry.{top}
 use Rattle.pmp.specs.Rule.{is_size, owners_decide, none as no_entry}
-use Rattle.pmp.specs.Number.{fault_cause}
+use Rattle.pmp.specs.Number.{fault_cause, refusal_number}
 use Rattle.pmp.proofs.Answered.{GrantOrFault, grants, faults, owners_answer}
 use Rattle.steps.specs.declared.Operation.{Operation}
 use Rattle.steps.specs.declared.Event.{Event}
@@ -24,14 +25,12 @@ use Rattle.steps.specs.declared.Event.TheVariants.{Raise, Lines, TakeInterrupt, 
 use Rattle.steps.specs.declared.Step.{Step}
 use Rattle.steps.specs.declared.Step.TheVariants.{Reset, Csr, Access as AccessStep, Event as EventStep}
 use Rattle.steps.specs.declared.Answer.{Answer}
-use Rattle.steps.specs.declared.Answer.TheVariants.{Done, Refused}
-use Rattle.steps.specs.Number.{refusal_of}
+use Rattle.steps.specs.declared.Answer.TheVariants.{Done, DoneValue, DoneFlag, Granted, Trapped, Refused}
 use Rattle.protection.specs.Read.{is_pmp}
 use Rattle.protection.proofs.SameLaws.{same_pmp-refl}
 use Rattle.paging.specs.declared.Context.{Context}
-use Rattle.paging.specs.declared.Reached.{Reached}
 use Rattle.paging.specs.Memory.{Memory, lawful}
-use Rattle.paging.specs.Access.{page_fault_cause, reached}
+use Rattle.paging.specs.Access.{Reached, page_fault_cause, reached}
 use Rattle.paging.proofs.Answered.{Answered, grants as reach-grants, faults as reach-faults, page_faults, reached_unlawful, reached_missized, reached-answered}
 use Rattle.state.specs.declared.State.{State}
 use Rattle.state.specs.Hold.{can_hold}
@@ -39,7 +38,7 @@ use Rattle.state.specs.Words.{words_of}
 use Rattle.state.specs.Texts.{first_form_holds}
 use Rattle.csr.specs.Permit.{illegal}
 use Rattle.trap.specs.declared.Outcome.{Outcome}
-use Rattle.trap.specs.Enter.{raised, illegal_instruction}
+use Rattle.trap.specs.Enter.{illegal_instruction}
 use Rattle.trap.specs.Events.{event_step}
 use Rattle.trap.proofs.Quiet.{refuses, Quiet, raised_quiet, event_quiet}
 use Rattle.map.specs.declared.Map.{Map}
@@ -84,62 +83,71 @@ use Rattle.claims.specs.Refusals.{
   bytes_of_form,
   unheld_by,
   convert_refusal,
+  refused_by,
+  query_refused_by,
   Exactly,
   RefusalTable,
 }
 
 -- ---- an answer of any type that has refusals, and the table
 
-module _ {A : Type 0} (RefusedWith : ℕ → A) (refusing : A → Bool) (number : A → ℕ) (refusing-is : (n : ℕ) → refusing (RefusedWith n) ≡ true)
-    (number_is : (n : ℕ) → number (RefusedWith n) ≡ n) where
-  -- the answer is the table's refusal, or none where the table has none
+module _ {A : Type 0} (RefusedWith : Refusal → A) (refusing : A → Bool) (by : A → Option ℕ)
+    (by-is : (r : Refusal) → by (RefusedWith r) ≡ some (refusal_number r)) (by-none : (a : A) → refusing a ≡ false → by a ≡ none) where
+  -- the answer is a refusal with the table's number, or none where the table has none
   abbrev Tells : Option ℕ → A → Type 0
   Tells none a = refusing a ≡ false
-  Tells (some n) a = a ≡ RefusedWith n
+  Tells (some n) a = (r : Refusal) × ((a ≡ RefusedWith r) × (refusal_number r ≡ n))
 
-  one_number : {m n : ℕ} {a : A} → a ≡ RefusedWith m → a ≡ RefusedWith n → m ≡ n
-  one_number {m} {n} p q = sym (number_is m) ∙ ap number (sym p ∙ q) ∙ number_is n
+  told-by : (table : Option ℕ) (a : A) → Tells table a → by a ≡ table
+  told-by none a t = by-none a t
+  told-by (some n) a t = ap by t.1.0 ∙ by-is t.0 ∙ ap {B = Option ℕ} some t.1.1
 
-  exactly : (table : Option ℕ) (a : A) → Tells table a → Exactly (λ n. a ≡ RefusedWith n) table
-  exactly none a t n = (λ e. contradiction (ap refusing e ∙ refusing-is n) t, λ e. absurd (none-ne-some n e))
-  exactly (some m) a t n = (λ e. ap {B = Option ℕ} some (one_number t e), λ e. t ∙ ap RefusedWith (some-injective m n e))
+  exactly : (table : Option ℕ) (a : A) → Tells table a → Exactly (λ n. by a ≡ some n) table
+  exactly table a t n = (λ e. sym (told-by table a t) ∙ e, λ e. told-by table a t ∙ e)
+
+unrefused : (a : Answer) → refuses a ≡ false → refused_by a ≡ none
+unrefused Done e = refl
+unrefused (DoneValue old) e = refl
+unrefused (DoneFlag flag) e = refl
+unrefused (Granted entry) e = refl
+unrefused (Trapped trap level entry) e = refl
+unrefused (Refused refusal) e = contradiction refl e
 
 abbrev Told : Option ℕ → Answer → Type 0
-Told = Tells Refused refuses refusal_of (λ n. refl) (λ n. refl)
+Told = Tells Refused refuses refused_by (λ r. refl) unrefused
 
-told_exactly : (table : Option ℕ) (a : Answer) → Told table a → Exactly (λ n. a ≡ Refused n) table
-told_exactly = exactly Refused refuses refusal_of (λ n. refl) (λ n. refl)
+told_exactly : (table : Option ℕ) (a : Answer) → Told table a → Exactly (λ n. refused_by a ≡ some n) table
+told_exactly = exactly Refused refuses refused_by (λ r. refl) unrefused
 
--- ---- what is handed back: the table's refusal with the hart and map that went in, or no refusal
+-- ---- what is handed back: a refusal with the table's number and the hart and map that went in, or no refusal
 
 abbrev Handed : Hart → Map → Option ℕ → Stepped → Type 0
-Handed h map none r = refuses r.answer ≡ false
-Handed h map (some n) r = r ≡ handed_back h map (Refused n)
+Handed h map none s = refuses s.answer ≡ false
+Handed h map (some n) s = (r : Refusal) × ((s ≡ handed_back h map (Refused r)) × (refusal_number r ≡ n))
 
-handed_told : (h : Hart) (map : Map) (table : Option ℕ) (r : Stepped) → Handed h map table r → Told table r.answer
-handed_told h map none r t = t
-handed_told h map (some n) r t = ap (λ (s : Stepped). s.answer) t
+handed_told : (h : Hart) (map : Map) (table : Option ℕ) (s : Stepped) → Handed h map table s → Told table s.answer
+handed_told h map none s t = t
+handed_told h map (some n) s t = (t.0, (ap (λ (x : Stepped). x.answer) t.1.0, t.1.1))
 
-handed_exactly : (h : Hart) (map : Map) (table : Option ℕ) (r : Stepped) → Handed h map table r → Exactly (λ n. r.answer ≡ Refused n) table
-handed_exactly h map table r t = told_exactly table r.answer (handed_told h map table r t)
+handed_exactly : (h : Hart) (map : Map) (table : Option ℕ) (s : Stepped) → Handed h map table s → Exactly (λ n. refused_by s.answer ≡ some n) table
+handed_exactly h map table s t = told_exactly table s.answer (handed_told h map table s t)
 
-handed_unchanged : (h : Hart) (map : Map) (table : Option ℕ) (r : Stepped) → Handed h map table r → (n : ℕ) → r.answer ≡ Refused n
-    → r ≡ handed_back h map (Refused n)
-handed_unchanged h map none r t n e = contradiction (ap refuses e) t
-handed_unchanged h map (some m) r t n e =
-    t ∙ ap (λ (k : ℕ). handed_back h map (Refused k)) (ap refusal_of (sym (ap (λ (s : Stepped). s.answer) t) ∙ e))
+handed_unchanged : (h : Hart) (map : Map) (table : Option ℕ) (s : Stepped) → Handed h map table s → (r : Refusal) → s.answer ≡ Refused r
+    → s ≡ handed_back h map (Refused r)
+handed_unchanged h map none s t r e = contradiction (ap refuses e) t
+handed_unchanged h map (some n) s t r e = t.1.0 ∙ ap (handed_back h map) (sym (ap (λ (x : Stepped). x.answer) t.1.0) ∙ e)
 
 -- ---- steps: what each does to the state
 
 abbrev Refuses : State → Option ℕ → Effect → Type 0
 Refuses s none e = refuses e.answer ≡ false
-Refuses s (some n) e = e ≡ refused s n
+Refuses s (some n) e = (r : Refusal) × ((e ≡ refused s r) × (refusal_number r ≡ n))
 
 module _ (s : State) where
   -- an event that passes its test is not refused
   unless : (b : Bool) (o : Outcome) → Quiet s.registers (not b) o → Refuses s (cond b none (some 2)) (on_registers s o)
   unless true o q = q
-  unless false o q = ap (on_registers s) q
+  unless false o q = (Refusal.Argument, (ap (on_registers s) q, refl))
 
   event_refuses : (event : Event) → Refuses s (event_refusal event) (on_registers s (event_step s.registers event))
   event_refuses (Raise cause tval) = unless (leb cause 7) _ (event_quiet s.registers (Raise cause tval))
@@ -159,10 +167,10 @@ module _ (s : State) where
     where
       go : (a b c d : Bool)
           → Refuses s (cond a (some 2) none)
-          (cond a (refused s 2)
+          (cond a (refused s Refusal.Argument)
           (cond b (on_registers s (illegal_instruction s.registers))
           (cond c (protection_step s op number operand) (cond d (satp_step s op operand) (register_step s op number operand)))))
-      go true b c d = refl
+      go true b c d = (Refusal.Argument, (refl, refl))
       go false true c d = raised_quiet s.registers 2 0 no_entry
       go false false true d = refl
       go false false false true = refl
@@ -185,8 +193,8 @@ module _ (s : State) where
         go : (a b : Bool) → lawful m ≡ a → is_size size ≡ b
             → Refuses s (cond a (cond b none (some 1)) (some 13)) (access_decided s (reached s.pmp m c address size))
         go true true l k = decided_refuses access _ (reached-answered s.pmp m c address size l k)
-        go true false l k = ap (access_decided s) (reached_missized s.pmp m c address size l k)
-        go false b l k = ap (access_decided s) (reached_unlawful s.pmp m c address size l)
+        go true false l k = (Refusal.Size, (ap (access_decided s) (reached_missized s.pmp m c address size l k), refl))
+        go false b l k = (Refusal.Memory, (ap (access_decided s) (reached_unlawful s.pmp m c address size l), refl))
 
     access_step_refuses : (access : Access) (address size : ℕ) → Refuses s (memory_refusal m access size) (access_step s m access address size)
     access_step_refuses Fetch address size = access_refuses Fetch s.registers.pc 4
@@ -203,7 +211,7 @@ module _ (s : State) where
 
 with-map : (h : Hart) (map : Map) (table : Option ℕ) (e : Effect) → Refuses h.state table e → Handed h map table (with_map h map e)
 with-map h map none e q = q
-with-map h map (some n) e q = ap (with_map h map) q ∙ rw (same_pmp-refl h.state.pmp)
+with-map h map (some n) e q = (q.0, (ap (with_map h map) q.1.0 ∙ rw (same_pmp-refl h.state.pmp), q.1.1))
 
 step_handed : (h : Hart) (map : Map) (m : Memory) (step : Step) → Handed h map (step_refusal h.state m step) (stepped h map m step)
 unfolding stepped step_rule
@@ -211,28 +219,28 @@ step_handed h map m step = go (is_reset step) (can_hold h.state)
   where
     go : (a b : Bool)
         → Handed h map (cond a none (cond b (argument_refusal m step) (some 3)))
-        (cond a (reset_done h.state.pmp.grain) (with_map h map (cond (a || b) (effect h.state m step) (refused h.state 3))))
+        (cond a (reset_done h.state.pmp.grain) (with_map h map (cond (a || b) (effect h.state m step) (refused h.state Refusal.State))))
     go true b = refl
     go false true = with-map h map (argument_refusal m step) (effect h.state m step) (effect_refuses h.state m step)
-    go false false = with-map h map (some 3) (refused h.state 3) refl
+    go false false = with-map h map (some 3) (refused h.state Refusal.State) (Refusal.State, (refl, refl))
 
-reset_never : (h : Hart) (map : Map) (m : Memory) (n : ℕ) → (stepped h map m Reset).answer ≡ Refused n → ⊥
-reset_never h map m n e = none-ne-some n ((handed_exactly h map none (stepped h map m Reset) (step_handed h map m Reset) n).0 e)
+reset_never : (h : Hart) (map : Map) (m : Memory) (refusal : Refusal) → (stepped h map m Reset).answer ≡ Refused refusal → ⊥
+reset_never h map m refusal e = contradiction (ap refuses e) (step_handed h map m Reset)
 
 -- ---- queries
 
 abbrev refuses_access : Decision → Bool
 refuses_access (Decision.Granted entry) = false
 refuses_access (Decision.Fault cause entry) = false
-refuses_access (Decision.Refused number) = true
+refuses_access (Decision.Refused refusal) = true
 
-abbrev access_refusal : Decision → ℕ
-access_refusal (Decision.Granted entry) = 0
-access_refusal (Decision.Fault cause entry) = 0
-access_refusal (Decision.Refused number) = number
+query_unrefused : (d : Decision) → refuses_access d ≡ false → query_refused_by d ≡ none
+query_unrefused (Decision.Granted entry) e = refl
+query_unrefused (Decision.Fault cause entry) e = refl
+query_unrefused (Decision.Refused refusal) e = contradiction refl e
 
 abbrev Decided : Option ℕ → Decision → Type 0
-Decided = Tells Decision.Refused refuses_access access_refusal (λ n. refl) (λ n. refl)
+Decided = Tells Decision.Refused refuses_access query_refused_by (λ r. refl) query_unrefused
 
 answered : (access : Access) (d : Decision) → GrantOrFault access d → Decided none d
 answered access _ (grants entry h) = refl
@@ -254,8 +262,8 @@ module _ (cfgs : List ℕ) (mode : Mode) (access : Access) (address size : ℕ) 
       any_unowned = λ j. any_byte (λ byte. unowned-read (find_range (ranges_in map) byte) j) size address
 
       go : (a : Bool)
-          → Decided (cond a (some 7) none) (cond a (Decision.Refused 7) (owners_decide cfgs mode access (owner_in (ranges_in map)) address size))
-      go true = refl
+          → Decided (cond a (some 7) none) (cond a (Decision.Refused Refusal.Map) (owners_decide cfgs mode access (owner_in (ranges_in map)) address size))
+      go true = (Refusal.Map, (refl, refl))
       go false = answered access _ (owners_answer cfgs mode access (owner_in (ranges_in map)) address size)
 
 query-decided : (h : Hart) (map : Map) (mode : Mode) (access : Access) (address size : ℕ)
@@ -271,11 +279,11 @@ query-decided h map mode access address size = go (can_hold h.state) (is_size si
 
     go : (a b c : Bool)
         → Decided (cond a (cond b (cond c none (range_refusal map address size)) (some 1)) (some 3))
-        (cond a (cond (b && not c) decision (cond b (Decision.Fault (fault_cause access) no_entry) (Decision.Refused 1))) (Decision.Refused 3))
+        (cond a (cond (b && not c) decision (cond b (Decision.Fault (fault_cause access) no_entry) (Decision.Refused Refusal.Size))) (Decision.Refused Refusal.State))
     go true true true = refl
     go true true false = ranges-decided cfgs mode access address size map
-    go true false c = refl
-    go false b c = refl
+    go true false c = (Refusal.Size, (refl, refl))
+    go false b c = (Refusal.State, (refl, refl))
 
 -- ---- texts
 
@@ -295,20 +303,20 @@ module _ (form : Form) (h : Hart) (buffer : List ℕ) where
       rw (bytes_are form, unheld form h.state) (go (can_hold h.state) (leb (length_of form) (length buffer)) (form_holds form h.state))
     where
       go : (a b c : Bool)
-          → Told (cond a (cond b (cond (not c) (some 12) none) (some 6)) (some 3)) (cond a (cond b (cond c Done (Refused 12)) (Refused 6)) (Refused 3))
+          → Told (cond a (cond b (cond (not c) (some 12) none) (some 6)) (some 3)) (cond a (cond b (cond c Done (Refused Refusal.Form)) (Refused Refusal.Buffer)) (Refused Refusal.State))
       go true true true = refl
-      go true true false = refl
-      go true false c = refl
-      go false b c = refl
+      go true true false = (Refusal.Form, (refl, refl))
+      go true false c = (Refusal.Buffer, (refl, refl))
+      go false b c = (Refusal.State, (refl, refl))
 
-  save-unchanged : (n : ℕ) → saved_answer form h buffer ≡ Refused n → saved_buffer form h buffer ≡ buffer
+  save-unchanged : (r : Refusal) → saved_answer form h buffer ≡ Refused r → saved_buffer form h buffer ≡ buffer
   unfolding saved_answer saved_buffer written_to
-  save-unchanged n = go (can_hold h.state) (leb (length_of form) (length buffer)) (form_holds form h.state)
+  save-unchanged r = go (can_hold h.state) (leb (length_of form) (length buffer)) (form_holds form h.state)
     where
       text : List ℕ
       text = text_of form (words_of h.state) ++ drop (length_of form) buffer
 
-      go : (a b c : Bool) → cond a (cond b (cond c Done (Refused 12)) (Refused 6)) (Refused 3) ≡ Refused n
+      go : (a b c : Bool) → cond a (cond b (cond c Done (Refused Refusal.Form)) (Refused Refusal.Buffer)) (Refused Refusal.State) ≡ Refused r
           → cond (a && c) (cond b text buffer) buffer ≡ buffer
       go true true true e = contradiction (ap refuses e) refl
       go true true false e = refl
@@ -325,11 +333,11 @@ read_handed form h map text = rw (unheld form s) (go (read_text form text).ok (c
 
     go : (a b c : Bool)
         → Handed h map (cond a (cond (b && not (not c)) none (some 5)) (some 4))
-        (cond a (cond (b && c) (restored_done s) (handed_back h map (Refused 5))) (handed_back h map (Refused 4)))
+        (cond a (cond (b && c) (restored_done s) (handed_back h map (Refused Refusal.TextState))) (handed_back h map (Refused Refusal.Text)))
     go true true true = refl
-    go true true false = refl
-    go true false c = refl
-    go false b c = refl
+    go true true false = (Refusal.TextState, (refl, refl))
+    go true false c = (Refusal.TextState, (refl, refl))
+    go false b c = (Refusal.Text, (refl, refl))
 
 module _ (to : Form) (text buffer : List ℕ) where
   abbrev in_text : State
@@ -343,35 +351,35 @@ module _ (to : Form) (text buffer : List ℕ) where
     where
       go : (a b c d e : Bool)
           → Told (cond a (cond (b && not (not c)) (cond d (cond (not e) (some 12) none) (some 6)) (some 5)) (some 4))
-          (cond a (cond (b && c) (cond b (cond d (cond e Done (Refused 12)) (Refused 6)) (Refused 3)) (Refused 5)) (Refused 4))
+          (cond a (cond (b && c) (cond b (cond d (cond e Done (Refused Refusal.Form)) (Refused Refusal.Buffer)) (Refused Refusal.State)) (Refused Refusal.TextState)) (Refused Refusal.Text))
       go true true true true true = refl
-      go true true true true false = refl
-      go true true true false e = refl
-      go true true false d e = refl
-      go true false c d e = refl
-      go false b c d e = refl
+      go true true true true false = (Refusal.Form, (refl, refl))
+      go true true true false e = (Refusal.Buffer, (refl, refl))
+      go true true false d e = (Refusal.TextState, (refl, refl))
+      go true false c d e = (Refusal.TextState, (refl, refl))
+      go false b c d e = (Refusal.Text, (refl, refl))
 
-  convert-unchanged : (n : ℕ) → converted_answer to text buffer ≡ Refused n → converted_buffer to text buffer ≡ buffer
+  convert-unchanged : (r : Refusal) → converted_answer to text buffer ≡ Refused r → converted_buffer to text buffer ≡ buffer
   unfolding converted_answer converted_buffer
-  convert-unchanged n = go (read_text (other to) text).ok (text_holds (other to) in_text)
+  convert-unchanged r = go (read_text (other to) text).ok (text_holds (other to) in_text)
     where
-      go : (a b : Bool) → cond a (cond b (saved_answer to (hart_with in_text) buffer) (Refused 5)) (Refused 4) ≡ Refused n
+      go : (a b : Bool) → cond a (cond b (saved_answer to (hart_with in_text) buffer) (Refused Refusal.TextState)) (Refused Refusal.Text) ≡ Refused r
           → cond a (cond b (saved_buffer to (hart_with in_text) buffer) buffer) buffer ≡ buffer
-      go true true e = save-unchanged to (hart_with in_text) buffer n e
+      go true true e = save-unchanged to (hart_with in_text) buffer r e
       go true false e = refl
       go false b e = refl
 
 -- ---- texts of the other form, and of none
 
 module _ (form : Form) (text : List ℕ) (e : (read_text form text).ok ≡ false) where
-  unformed : (h : Hart) (map : Map) → (restored form h map text).answer ≡ Refused 4
+  unformed : (h : Hart) (map : Map) → (restored form h map text).answer ≡ Refused Refusal.Text
   unfolding restored
   unformed h map = rw e
 
 other-form : (form : Form) (text : List ℕ) → (read_text form text).ok ≡ true → (read_text (other form) text).ok ≡ false
 other-form form text e = ap (λ (r : Reading). r.ok) (other-unread form text e)
 
-same_form : (to : Form) (text buffer : List ℕ) → (read_text to text).ok ≡ true → converted_answer to text buffer ≡ Refused 4
+same_form : (to : Form) (text buffer : List ℕ) → (read_text to text).ok ≡ true → converted_answer to text buffer ≡ Refused Refusal.Text
 unfolding converted_answer
 same_form to text buffer e = rw (other-form to text e)
 
@@ -379,10 +387,10 @@ second_begins : (ws : List ℕ) → take 22 (text_of Second ws) ≡ bytes_of "fo
 unfolding text_of head_of line_of bytes_of hex_digits
 second_begins ws = refl
 
-form_line : (h : Hart) (map : Map) (text : List ℕ) → (take 22 text ≡ bytes_of "form=0000000000000002\n" → ⊥) → (restored Second h map text).answer ≡ Refused 4
+form_line : (h : Hart) (map : Map) (text : List ℕ) → (take 22 text ≡ bytes_of "form=0000000000000002\n" → ⊥) → (restored Second h map text).answer ≡ Refused Refusal.Text
 form_line h map text line = go (read_text Second text).ok refl
   where
-    go : (b : Bool) → (read_text Second text).ok ≡ b → (restored Second h map text).answer ≡ Refused 4
+    go : (b : Bool) → (read_text Second text).ok ≡ b → (restored Second h map text).answer ≡ Refused Refusal.Text
     go true e =
         let ws = (read_text Second text).words in
         absurd (line (ap (take 22) (text-read Second text ws (read_as_lem Second text e)) ∙ second_begins ws))
@@ -397,7 +405,7 @@ refusal_table =
       step-unchanged = λ h map m step. handed_unchanged h map (step_refusal h.state m step) (stepped h map m step) (step_handed h map m step);
       reset_never = reset_never;
       query = λ h map mode access address size.
-          exactly Decision.Refused refuses_access access_refusal (λ n. refl) (λ n. refl) (query_refusal h.state map address size)
+          exactly Decision.Refused refuses_access query_refused_by (λ r. refl) query_unrefused (query_refusal h.state map address size)
           (query_answer h map mode access address size) (query-decided h map mode access address size);
       save = λ form h buffer. told_exactly (save_refusal form h.state buffer) (saved_answer form h buffer) (save-told form h buffer);
       save-unchanged = save-unchanged;

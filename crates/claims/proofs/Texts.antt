@@ -1,15 +1,17 @@
 -- Harts and saved texts turn into each other without loss within each form, no second text stands for the same state, and converting keeps it. Assumes nothing.
 use Prim.Native.Nat.{ℕ, ◌-◌, ◌≤◌}
 use mathlib.Core.Path.{◌≡◌, refl, sym, ap, subst, ◌∙◌}
-use mathlib.Core.Bool.{Bool, true, false, cond, not, ◌&&◌, false≢true}
+use mathlib.Core.Bool.{Bool, true, false, cond, ◌&&◌, false≢true}
 use mathlib.Core.List.{List, ◌++◌}
 use native.Mathlib.Omega.{arith}
 use borrow.Author.Tests.{le-leb, leb-true, eqb-true, not-false}
 use lib.Dec.{eqb, leb}
 use lib.ListN.{length, take, drop}
 use lib.Seq.{take_at}
+use Rattle.std.specs.Prelude.{is_some}
 use Rattle.bits.specs.Lists.{elements, Words}
-use Rattle.bits.proofs.Conjunction.{both}
+use Rattle.bits.proofs.Conjunction.{both, contradiction}
+use Rattle.pmp.specs.declared.Refusal.{Refusal}
 use Rattle.steps.specs.declared.Answer.{Answer}
 use Rattle.steps.specs.declared.Answer.TheVariants.{Done, Refused}
 use Rattle.steps.specs.Number.{refusal_of}
@@ -54,7 +56,7 @@ words_kept Second ws n p = all_lines ws n
 -- what is made of a text's reading
 abbrev judged : Form → Hart → Map → Reading → Stepped
 judged form g map r =
-    cond r.ok (cond (text_holds form (state_of r.words)) (restored_done (state_of r.words)) (handed_back g map (Refused 5))) (handed_back g map (Refused 4))
+    cond r.ok (cond (text_holds form (state_of r.words)) (restored_done (state_of r.words)) (handed_back g map (Refused Refusal.TextState))) (handed_back g map (Refused Refusal.Text))
 
 -- the text of words reads back as their state
 words-restored : (form : Form) (ws : List ℕ) (g : Hart) (map : Map) → Words 43 ws → can_hold (state_of ws) ≡ true → form_holds form (state_of ws) ≡ true
@@ -109,7 +111,7 @@ module _ (form : Form) (g h : Hart) (map m : Map) (text : List ℕ) where
   text-reads = go (read_text form text).ok (text_holds form (state_in form text)) refl refl
     where
       go : (a b : Bool) → (read_text form text).ok ≡ a → text_holds form (state_in form text) ≡ b
-          → cond a (cond b (restored_done (state_in form text)) (handed_back g map (Refused 5))) (handed_back g map (Refused 4)) ≡ handed_back h m Done
+          → cond a (cond b (restored_done (state_in form text)) (handed_back g map (Refused Refusal.TextState))) (handed_back g map (Refused Refusal.Text)) ≡ handed_back h m Done
           → Read form text h m
       go true true p q e =
           let r = read_as_lem form text p in
@@ -173,11 +175,11 @@ lossless =
 -- ---- converting
 
 -- what is made of a text that reads back
-read_made : {A : Type 0} (form : Form) (text : List ℕ) (refused : ℕ → A) (made : State → A) (h : Hart) (m : Map) → ReadsAs form text h m
+read_made : {A : Type 0} (form : Form) (text : List ℕ) (refused : Refusal → A) (made : State → A) (h : Hart) (m : Map) → ReadsAs form text h m
     → by_text form text refused made ≡ made h.state
 read_made form text refused made h m e =
     let r = read_of e in
-    ap (λ (x : Reading). cond x.ok (cond (text_holds form (state_of x.words)) (made (state_of x.words)) (refused 5)) (refused 4)) r.reading
+    ap (λ (x : Reading). cond x.ok (cond (text_holds form (state_of x.words)) (made (state_of x.words)) (refused Refusal.TextState)) (refused Refusal.Text)) r.reading
     ∙ rw (r.held, r.fits) (ap made (state_is r))
 
 module _ (to : Form) (h : Hart) (m : Map) (text b : List ℕ) (e : ReadsAs (other to) text h m) where
@@ -195,7 +197,7 @@ unfolding saved_answer
 saved_when form h b = go (can_hold h.state) (leb (length_of form) (length b)) (form_holds form h.state) refl refl
   where
     go : (a c d : Bool) → leb (length_of form) (length b) ≡ c → form_holds form h.state ≡ d
-        → cond a (cond c (cond d Done (Refused 12)) (Refused 6)) (Refused 3) ≡ Done → (length_of form ≤ length b) × (form_holds form h.state ≡ true)
+        → cond a (cond c (cond d Done (Refused Refusal.Form)) (Refused Refusal.Buffer)) (Refused Refusal.State) ≡ Done → (length_of form ≤ length b) × (form_holds form h.state ≡ true)
     go true true true p q e = (leb-true (length_of form) (length b) p, q)
     go true true false p q e = absurd (false≢true (ap is_done e))
     go true false d p q e = absurd (false≢true (ap is_done e))
@@ -227,8 +229,8 @@ convert-read to text b e g map = go (read_text (other to) text).ok (text_holds (
     s : State
     s = state_in (other to) text
 
-    go : (x y : Bool) → cond x (cond y (saved_answer to (hart_with s) b) (Refused 5)) (Refused 4) ≡ Done
-        → cond x (cond y (restored_done s) (handed_back g map (Refused 5))) (handed_back g map (Refused 4)) ≡ restored_done s
+    go : (x y : Bool) → cond x (cond y (saved_answer to (hart_with s) b) (Refused Refusal.TextState)) (Refused Refusal.Text) ≡ Done
+        → cond x (cond y (restored_done s) (handed_back g map (Refused Refusal.TextState))) (handed_back g map (Refused Refusal.Text)) ≡ restored_done s
     go true true q = refl
     go true false q = absurd (false≢true (ap is_done q))
     go false y q = absurd (false≢true (ap is_done q))
@@ -263,22 +265,22 @@ conversion =
 
 module _ (form : Form) (h : Hart) (map : Map) (b : List ℕ) (t : Typed h.state) (room : length_of form ≤ length b) where
   -- by the answer of the save, and its refusal
-  module _ {a : Answer} (e : a ≡ saved_answer form h b) {n : ℕ} (f : n ≡ refusal_of a) where
-    answered : a ≡ cond (can_hold h.state) (cond (form_holds form h.state) Done (Refused 12)) (Refused 3)
+  module _ {a : Answer} (e : a ≡ saved_answer form h b) {n : Bool} (f : n ≡ is_some (refusal_of a)) where
+    answered : a ≡ cond (can_hold h.state) (cond (form_holds form h.state) Done (Refused Refusal.Form)) (Refused Refusal.State)
     unfolding saved_answer
     answered = e ∙ rw (le-leb (length_of form) (length b) room)
 
-    pub resaved-refused : (n ≡ 0 → ⊥) → handed_back h map a ≡ resaved form h map
+    pub resaved-refused : n ≡ true → handed_back h map a ≡ resaved form h map
     unfolding resaved
     resaved-refused z = go (can_hold h.state) (form_holds form h.state) answered
       where
-        go : (x y : Bool) → a ≡ cond x (cond y Done (Refused 12)) (Refused 3)
-            → handed_back h map a ≡ cond x (cond y (restored_done h.state) (handed_back h map (Refused 12))) (handed_back h map (Refused 3))
-        go true true q = absurd (z (f ∙ ap refusal_of q))
+        go : (x y : Bool) → a ≡ cond x (cond y Done (Refused Refusal.Form)) (Refused Refusal.State)
+            → handed_back h map a ≡ cond x (cond y (restored_done h.state) (handed_back h map (Refused Refusal.Form))) (handed_back h map (Refused Refusal.State))
+        go true true q = contradiction z (f ∙ ap (λ (x : Answer). is_some (refusal_of x)) q)
         go true false q = ap (handed_back h map) q
         go false y q = ap (handed_back h map) q
 
-    pub resaved-done : n ≡ 0 → {l : ℕ} → l ≡ length_of form → {x : List ℕ} → x ≡ saved_buffer form h b → {s : Stepped}
+    pub resaved-done : n ≡ false → {l : ℕ} → l ≡ length_of form → {x : List ℕ} → x ≡ saved_buffer form h b → {s : Stepped}
         → s ≡ restored form h map (take (l - 0) x) → s ≡ resaved form h map
     unfolding resaved
     resaved-done z {l} i {x} d {s} k = go (can_hold h.state) (form_holds form h.state) refl refl answered
@@ -286,8 +288,8 @@ module _ (form : Form) (h : Hart) (map : Map) (b : List ℕ) (t : Typed h.state)
         front : take (l - 0) x ≡ text_at form (saved_buffer form h b)
         front = let m : l - 0 ≡ length_of form = omega arith in λ j. take (m j) (d j)
 
-        go : (x y : Bool) → can_hold h.state ≡ x → form_holds form h.state ≡ y → a ≡ cond x (cond y Done (Refused 12)) (Refused 3)
-            → s ≡ cond x (cond y (restored_done h.state) (handed_back h map (Refused 12))) (handed_back h map (Refused 3))
+        go : (x y : Bool) → can_hold h.state ≡ x → form_holds form h.state ≡ y → a ≡ cond x (cond y Done (Refused Refusal.Form)) (Refused Refusal.State)
+            → s ≡ cond x (cond y (restored_done h.state) (handed_back h map (Refused Refusal.Form))) (handed_back h map (Refused Refusal.State))
         go true true p q c = k ∙ ap (restored form h map) (front ∙ saved_front form h b p q room) ∙ text-restored form h h map t p q
-        go true false p q c = let v : n ≡ 12 = f ∙ ap refusal_of c in absurd (omega arith)
-        go false y p q c = let v : n ≡ 3 = f ∙ ap refusal_of c in absurd (omega arith)
+        go true false p q c = contradiction (f ∙ ap (λ (x : Answer). is_some (refusal_of x)) c) z
+        go false y p q c = contradiction (f ∙ ap (λ (x : Answer). is_some (refusal_of x)) c) z

@@ -1,5 +1,5 @@
 -- 01, "What has to be nailed", and 02, [8] to [10]: what a query after a run answers, said by the registers alone. One memory is lent to the whole run.
-use Rattle.std.specs.Prelude.{ℕ, cond, List, [], eqb}
+use Rattle.std.specs.Prelude.{ℕ, cond, List, [], unwrap_or, option_map}
 use Rattle.pmp.specs.declared.Mode.{Mode}
 use Rattle.pmp.specs.declared.Access.{Access}
 use Rattle.pmp.specs.declared.Decision.{Decision}
@@ -25,6 +25,5 @@ rule_after s steps mode access address size =
 -- the same from the state of a text of either form; a refused text answers with its refusal
 unfoldable pub rule_from_text : Form → List ℕ → List Lent → Mode → Access → ℕ → ℕ → Decision
 rule_from_text form text steps mode access address size =
-    cond (eqb (refusal_of (read_anew form text).answer) 0)
+    unwrap_or (option_map Refused (refusal_of (read_anew form text).answer))
     (rule_after (read_anew form text).hart.state steps mode access address size)
-    (Refused (refusal_of (read_anew form text).answer))

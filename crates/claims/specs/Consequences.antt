@@ -208,7 +208,7 @@ NoEntry (DoneValue old) = Unit {0}
 NoEntry (DoneFlag flag) = Unit {0}
 NoEntry (Granted entry) = ⊥
 NoEntry (Trapped trap level entry) = entry ≡ 16
-NoEntry (Refused number) = Unit {0}
+NoEntry (Refused refusal) = Unit {0}
 
 -- ---- owners
 

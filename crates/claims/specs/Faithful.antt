@@ -4,6 +4,7 @@ use Rattle.pmp.specs.declared.Mode.{Mode}
 use Rattle.pmp.specs.declared.Access.{Access}
 use Rattle.pmp.specs.declared.Decision.{Decision}
 use Rattle.pmp.specs.declared.Decision.TheVariants.{Refused}
+use Rattle.pmp.specs.declared.Refusal.{Refusal}
 use Rattle.pmp.specs.declared.Span.{Span}
 use Rattle.pmp.specs.Rule.{is_size, byte_rule}
 use Rattle.steps.specs.declared.Answer.TheVariants.{Done}
@@ -64,8 +65,8 @@ pub record FaithfulAfter (start : Mapped) (steps : List Lent) : Type 0 where
   pub answers : (mode : Mode) (access : Access) (address size : ℕ) → is_size size ≡ true
       → query_after start steps mode access address size
       ≡ byte_rule (spans_after start steps) (pmp_after start steps).cfgs mode access address size
-  pub unrefused : (mode : Mode) (access : Access) (address size number : ℕ) → is_size size ≡ true
-      → query_after start steps mode access address size ≡ Refused number → ⊥
+  pub unrefused : (mode : Mode) (access : Access) (address size : ℕ) (refusal : Refusal) → is_size size ≡ true
+      → query_after start steps mode access address size ≡ Refused refusal → ⊥
 
 -- 01's one-range clause, widened: any two maps, any two states a hart can hold; the PMP bytes, effective mode, kind, address and size are equal,
 -- and for each byte of the access the lowest-numbered range holding it is the same in both maps, or missing in both

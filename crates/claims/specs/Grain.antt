@@ -7,6 +7,7 @@ use Rattle.pmp.specs.declared.Mode.{Mode}
 use Rattle.pmp.specs.declared.Access.{Access}
 use Rattle.pmp.specs.declared.Decision.TheVariants.{Refused}
 use Rattle.pmp.specs.declared.Span.{Span}
+use Rattle.pmp.specs.declared.Refusal.{Refusal}
 use Rattle.pmp.specs.Entry.{span_of, field_a, address_before, locked, matches}
 use Rattle.pmp.specs.Rule.{byte_rule, is_size, checked}
 use Rattle.steps.specs.declared.Operation.{Operation}
@@ -67,7 +68,7 @@ pub record Grain : Type 0 where
   -- ---- "With G=0 all of 01 stands": entries, byte rule, map, reads, what a written byte becomes, what a hart can hold, reset
   pub same_spans : (cfgs addrs : List ℕ) → spans_of (with_grain_zero cfgs addrs) ≡ stored_span cfgs addrs
   pub same_rule : (cfgs addrs : List ℕ) (mode : Mode) (access : Access) (address size : ℕ)
-      → checked 0 cfgs addrs mode access address size ≡ cond (is_size size) (byte_rule (stored_span cfgs addrs) cfgs mode access address size) (Refused 1)
+      → checked 0 cfgs addrs mode access address size ≡ cond (is_size size) (byte_rule (stored_span cfgs addrs) cfgs mode access address size) (Refused Refusal.Size)
   pub same_map : (cfgs addrs : List ℕ) → map_for (with_grain_zero cfgs addrs) ≡ map_of (ranges_of (stored_span cfgs addrs))
   pub same_read : (cfgs addrs : List ℕ) (n : ℕ) → pmp_read (with_grain_zero cfgs addrs) n ≡ stored_read cfgs addrs n
   pub same_written : (old value : ℕ) → config_written 0 old value ≡ cond (locked old) old (config_kept value)

@@ -8,12 +8,15 @@ use Rattle.pmp.specs.declared.Mode.{Mode}
 use Rattle.pmp.specs.declared.Access.{Access}
 use Rattle.pmp.specs.declared.Access.TheVariants.{Fetch, Load, Store}
 use Rattle.pmp.specs.declared.Decision.{Decision}
+use Rattle.pmp.specs.declared.Refusal.{Refusal}
+use Rattle.pmp.specs.Number.{refusal_number}
 use Rattle.pmp.specs.Search.{any_byte}
 use Rattle.steps.specs.declared.Event.{Event}
 use Rattle.steps.specs.declared.Event.TheVariants.{Raise, Lines, TakeInterrupt, Mret, Sret, Wfi, Ecall, Ebreak, Advance, Elapsed}
 use Rattle.steps.specs.declared.Step.{Step}
 use Rattle.steps.specs.declared.Step.TheVariants.{Reset, Csr, Access as AccessStep, Event as EventStep}
-use Rattle.steps.specs.declared.Answer.TheVariants.{Refused}
+use Rattle.steps.specs.declared.Answer.{Answer}
+use Rattle.steps.specs.declared.Answer.TheVariants.{Done, DoneValue, DoneFlag, Granted, Trapped, Refused}
 use Rattle.paging.specs.Memory.{Memory}
 use Rattle.state.specs.declared.State.{State}
 use Rattle.state.specs.Hold.{can_hold}
@@ -123,32 +126,47 @@ convert_refusal to text buffer = text_refusal (other to) text (λ s. write_refus
 
 -- ---- what is claimed
 
+-- the number by which an answer refuses, and none where it is no refusal
+abbrev pub refused_by : Answer → Option ℕ
+refused_by Done = none
+refused_by (DoneValue old) = none
+refused_by (DoneFlag flag) = none
+refused_by (Granted entry) = none
+refused_by (Trapped trap level entry) = none
+refused_by (Refused refusal) = some (refusal_number refusal)
+
+-- the same of a query's answer
+abbrev pub query_refused_by : Decision → Option ℕ
+query_refused_by (Decision.Granted entry) = none
+query_refused_by (Decision.Fault cause entry) = none
+query_refused_by (Decision.Refused refusal) = some (refusal_number refusal)
+
 -- an answer refuses with n exactly when the table gives n
 abbrev pub Exactly : (ℕ → Type 0) → Option ℕ → Type 0
 Exactly RefusedWith table = (n : ℕ) → RefusedWith n ↔ (table ≡ some n)
 
 pub record RefusalTable : Type 0 where
   -- a step, and a refused one hands back the hart and map that went in
-  pub step : (h : Hart) (map : Map) (m : Memory) (step : Step) → Exactly (λ n. (stepped h map m step).answer ≡ Refused n) (step_refusal h.state m step)
-  pub step-unchanged : (h : Hart) (map : Map) (m : Memory) (step : Step) (n : ℕ) → (stepped h map m step).answer ≡ Refused n
-      → stepped h map m step ≡ handed_back h map (Refused n)
+  pub step : (h : Hart) (map : Map) (m : Memory) (step : Step) → Exactly (λ n. refused_by (stepped h map m step).answer ≡ some n) (step_refusal h.state m step)
+  pub step-unchanged : (h : Hart) (map : Map) (m : Memory) (step : Step) (refusal : Refusal) → (stepped h map m step).answer ≡ Refused refusal
+      → stepped h map m step ≡ handed_back h map (Refused refusal)
   -- step 0 is never refused
-  pub reset_never : (h : Hart) (map : Map) (m : Memory) (n : ℕ) → (stepped h map m Reset).answer ≡ Refused n → ⊥
+  pub reset_never : (h : Hart) (map : Map) (m : Memory) (refusal : Refusal) → (stepped h map m Reset).answer ≡ Refused refusal → ⊥
   -- a query, which hands back its answer and nothing that could change
   pub query : (h : Hart) (map : Map) (mode : Mode) (access : Access) (address size : ℕ)
-      → Exactly (λ n. query_answer h map mode access address size ≡ Decision.Refused n) (query_refusal h.state map address size)
+      → Exactly (λ n. query_refused_by (query_answer h map mode access address size) ≡ some n) (query_refusal h.state map address size)
   -- a save, and a refused one leaves the buffer as it was
-  pub save : (form : Form) (h : Hart) (buffer : List ℕ) → Exactly (λ n. saved_answer form h buffer ≡ Refused n) (save_refusal form h.state buffer)
-  pub save-unchanged : (form : Form) (h : Hart) (buffer : List ℕ) (n : ℕ) → saved_answer form h buffer ≡ Refused n → saved_buffer form h buffer ≡ buffer
+  pub save : (form : Form) (h : Hart) (buffer : List ℕ) → Exactly (λ n. refused_by (saved_answer form h buffer) ≡ some n) (save_refusal form h.state buffer)
+  pub save-unchanged : (form : Form) (h : Hart) (buffer : List ℕ) (refusal : Refusal) → saved_answer form h buffer ≡ Refused refusal → saved_buffer form h buffer ≡ buffer
   -- reading a text back, and a refused one hands back the hart and map that went in
-  pub restore : (form : Form) (h : Hart) (map : Map) (text : List ℕ) → Exactly (λ n. (restored form h map text).answer ≡ Refused n) (restore_refusal form text)
-  pub restore-unchanged : (form : Form) (h : Hart) (map : Map) (text : List ℕ) (n : ℕ) → (restored form h map text).answer ≡ Refused n
-      → restored form h map text ≡ handed_back h map (Refused n)
+  pub restore : (form : Form) (h : Hart) (map : Map) (text : List ℕ) → Exactly (λ n. refused_by (restored form h map text).answer ≡ some n) (restore_refusal form text)
+  pub restore-unchanged : (form : Form) (h : Hart) (map : Map) (text : List ℕ) (refusal : Refusal) → (restored form h map text).answer ≡ Refused refusal
+      → restored form h map text ≡ handed_back h map (Refused refusal)
   -- a conversion, and a refused one leaves the buffer as it was
-  pub convert : (to : Form) (text buffer : List ℕ) → Exactly (λ n. converted_answer to text buffer ≡ Refused n) (convert_refusal to text buffer)
-  pub convert-unchanged : (to : Form) (text buffer : List ℕ) (n : ℕ) → converted_answer to text buffer ≡ Refused n → converted_buffer to text buffer ≡ buffer
+  pub convert : (to : Form) (text buffer : List ℕ) → Exactly (λ n. refused_by (converted_answer to text buffer) ≡ some n) (convert_refusal to text buffer)
+  pub convert-unchanged : (to : Form) (text buffer : List ℕ) (refusal : Refusal) → converted_answer to text buffer ≡ Refused refusal → converted_buffer to text buffer ≡ buffer
   -- "each reader refuses the other's form by refusal 4", also where no hart can hold the text's state; so a text of the form asked for is not converted
-  pub other-form : (form : Form) (h : Hart) (map : Map) (text : List ℕ) → (read_text form text).ok ≡ true → (restored (other form) h map text).answer ≡ Refused 4
-  pub same_form : (to : Form) (text buffer : List ℕ) → (read_text to text).ok ≡ true → converted_answer to text buffer ≡ Refused 4
+  pub other-form : (form : Form) (h : Hart) (map : Map) (text : List ℕ) → (read_text form text).ok ≡ true → (restored (other form) h map text).answer ≡ Refused Refusal.Text
+  pub same_form : (to : Form) (text buffer : List ℕ) → (read_text to text).ok ≡ true → converted_answer to text buffer ≡ Refused Refusal.Text
   -- "the second form begins with a line `form=` and the value 2": a text that begins otherwise is refused by 4
-  pub form_line : (h : Hart) (map : Map) (text : List ℕ) → (take 22 text ≡ bytes_of "form=0000000000000002\n" → ⊥) → (restored Second h map text).answer ≡ Refused 4
+  pub form_line : (h : Hart) (map : Map) (text : List ℕ) → (take 22 text ≡ bytes_of "form=0000000000000002\n" → ⊥) → (restored Second h map text).answer ≡ Refused Refusal.Text

@@ -1,5 +1,6 @@
 -- 01, "Saved text", and 02, [10]: the text claim of demand 2, within each form, and what converting keeps.
 use Rattle.std.specs.Prelude.{ℕ, ◌^◌, ◌≤◌, ◌<◌, ◌≡◌, true, false, cond, List, ◌++◌, length, get_or, take, drop}
+use Rattle.pmp.specs.declared.Refusal.{Refusal}
 use Rattle.steps.specs.declared.Answer.TheVariants.{Done, Refused}
 use Rattle.protection.specs.Arrays.{Arrays}
 use Rattle.state.specs.declared.State.{State}
@@ -75,4 +76,4 @@ pub record Conversion : Type 0 where
 -- saving and reading back at once
 unfoldable pub resaved : Form → Hart → Map → Stepped
 resaved form h map =
-    cond (can_hold h.state) (cond (form_holds form h.state) (restored_done h.state) (handed_back h map (Refused 12))) (handed_back h map (Refused 3))
+    cond (can_hold h.state) (cond (form_holds form h.state) (restored_done h.state) (handed_back h map (Refused Refusal.Form))) (handed_back h map (Refused Refusal.State))

@@ -62,7 +62,7 @@ alone x = x ∷ replicate 15 0
 abbrev pub decider : Decision → ℕ
 decider (Granted entry) = entry
 decider (Fault cause entry) = entry
-decider (Refused number) = 17
+decider (Refused refusal) = 17
 
 -- protection registers with a grain, pmpcfg0 and pmpaddr0, and the others 0
 abbrev pub registers_by : ℕ → ℕ → ℕ → Pmp

@@ -10,15 +10,11 @@ use text::Form;
 pub fn resaved(form: Form, hart: Hart, map: Map) -> Stepped
     ensures { result ≡ resaved form hart map }
 {
-    // what the types of a state say, for the proof
     let state = hart.state;
-    let pmp = state.pmp;
-    protection::typed(pmp);
-    let words = state::to_words(state);
+    let words = <[u64; 43]>::from(state);
     let mut text = [0u8; 1094];
     let answer = hart.save(form, &mut text);
-    let refusal = steps::refusal_of(answer);
-    if refusal != 0 {
+    if answer.refusal().is_some() {
         return Stepped { hart, map, answer };
     }
     let size = text::text_length(form);

@@ -1,5 +1,5 @@
 // A write, a set or a clear of any register.
-ghost use Rattle.std.specs.Prelude.{◌≡◌, length};
+ghost use Rattle.std.specs.Prelude.{◌≡◌};
 ghost use Rattle.state.specs.Words.{registers_of};
 ghost use Rattle.state.specs.Slices.{loaded_registers, stored_registers};
 ghost use Rattle.csr.specs.Operate.{operated, modified_from, registers_operated};
@@ -22,8 +22,7 @@ pub fn value_written(operation: Operation, from: u64, operand: u64) -> u64
 }
 
 // What a set or a clear starts from: the SEIP line must not stick in mip.
-fn modified_from(words: &[u64], number: u64, old: u64) -> u64
-    requires { length words.now ≡ 43 }
+fn modified_from(words: &[u64; 43], number: u64, old: u64) -> u64
     ensures { result ≡ modified_from (registers_of words.now) number old }
 {
     if number == 0x344 {
@@ -37,9 +36,9 @@ fn modified_from(words: &[u64], number: u64, old: u64) -> u64
 pub fn operate(words: &mut [u64], operation: Operation, number: u64, operand: u64, old: u64)
     ensures { words.new ≡ stored_registers (registers_operated (loaded_registers words.old) operation number operand old) words.old }
 {
-    if words.len() != 43 {
+    let Some(words) = words.as_mut_array::<43>() else {
         return;
-    }
+    };
     if attempts_write(operation) {
         let from = modified_from(words, number, old);
         write(words, number, value_written(operation, from, operand));

@@ -4,35 +4,29 @@ ghost use Rattle.csr.specs.Permit.{attempts_write, counter_hidden, illegal};
 
 use crate::table::accessibility;
 use registers::Registers;
+use registers::fields::TVM;
 use steps::Operation;
 
 // Every operation but a read is a write attempt, even with operand 0.
 pub fn attempts_write(operation: Operation) -> bool
     ensures { result ≡ attempts_write operation }
 {
-    match operation {
-        Operation::Write => true,
-        Operation::Set => true,
-        Operation::Clear => true,
-        Operation::Read => false,
-    }
+    !matches!(operation, Operation::Read)
 }
 
 // Whether a counter's number is closed to the mode by mcounteren or scounteren.
 fn is_counter_hidden(r: Registers, n: u64) -> bool
     ensures { result ≡ counter_hidden r n }
 {
-    if n < 0xC00 {
-        return false;
+    match n {
+        0xC00..=0xC1F => {
+            let place = n - 0xC00;
+            let machine = (r.machine.counteren >> place) % 2;
+            let supervisor = (r.supervisor.counteren >> place) % 2;
+            ((r.mode != 3) & (machine != 1)) | ((r.mode == 0) & (supervisor != 1))
+        }
+        _ => false,
     }
-    if 0xC1F < n {
-        return false;
-    }
-    let place = n - 0xC00;
-    let mode = r.mode;
-    let machine = (r.machine.counteren >> place) % 2;
-    let supervisor = (r.supervisor.counteren >> place) % 2;
-    ((mode != 3) & (machine != 1)) | ((mode == 0) & (supervisor != 1))
 }
 
 // Whether the access is an illegal instruction, for any number. What the table says comes first; nothing in the state closes a register to M.
@@ -46,7 +40,7 @@ pub fn is_illegal(r: Registers, operation: Operation, number: u64) -> bool
         return illegal_by_address;
     }
     let below = mode < (access / 2 % 4) as u64;
-    let trapped = (number == 0x180) & ((mode == 1) & ((r.mstatus >> 20) % 2 == 1));
+    let trapped = (number == 0x180) & ((mode == 1) & (r.mstatus / TVM % 2 == 1));
     let hidden = is_counter_hidden(r, number);
     illegal_by_address | (below | (trapped | hidden))
 }

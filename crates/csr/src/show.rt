@@ -5,6 +5,7 @@ ghost use Rattle.csr.specs.Show.{register_read};
 use registers::{Registers, masks, pending_interrupts};
 
 // The value of the register with this number, and 0 where there is none.
+#[tactic(auto, unfolding(crate::specs::Show::register_read))]
 pub fn read(r: Registers, number: u64) -> u64
     ensures { result ≡ register_read r number }
 {

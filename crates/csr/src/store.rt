@@ -1,5 +1,5 @@
 // What a write stores.
-ghost use Rattle.std.specs.Prelude.{◌≡◌, length};
+ghost use Rattle.std.specs.Prelude.{◌≡◌};
 ghost use Rattle.state.specs.Words.{registers_of};
 ghost use Rattle.state.specs.Slices.{stored_registers};
 ghost use Rattle.csr.specs.Store.{status_written, tvec_written, registers_written};
@@ -8,6 +8,7 @@ use registers::{fields, masks};
 use state::places;
 
 // mstatus: MPP written 2 keeps its old field.
+#[tactic(auto, unfolding(crate::specs::Store::status_written))]
 fn status_written(old: u64, value: u64) -> u64
     ensures { result ≡ status_written old value }
 {
@@ -27,8 +28,7 @@ fn tvec_written(old: u64, value: u64) -> u64
 }
 
 // A write of any value to any number, in the words where they lie: each number stores to one word at most, and no other moves.
-pub(crate) fn write(words: &mut [u64], number: u64, value: u64)
-    requires { length words.old ≡ 43 }
+pub(crate) fn write(words: &mut [u64; 43], number: u64, value: u64)
     ensures { words.new ≡ stored_registers (registers_written (registers_of words.old) number value) words.old }
 {
     match number {

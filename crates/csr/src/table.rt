@@ -1,6 +1,8 @@
 // What of an access to a CSR depends on its address alone (02, [11]): a constant table with a number for each of the 4,096 addresses. csr/specs/Table says
 // what a number means: 0 is no register, 3 one open to S and M, 7 to M, 9 read-only to all modes, 15 read-only to M.
 //
+// The numbers stay numbers, and become no enum: 02, [11] asks for the table in this form.
+//
 // A row has sixteen addresses and is named by the first; rows without a register are one, `ABSENT`. docs/DECISIONS.md says why in rows.
 ghost use Rattle.std.specs.Prelude.{◌≡◌};
 ghost use Rattle.csr.specs.Table.{accessibility};

@@ -4,6 +4,7 @@ use mathlib.Core.Path.{◌≡◌}
 use mathlib.Core.Bool.{Bool, false, true≢false, ◌||◌}
 use lib.Dec.{eqb, ltb}
 use Rattle.bits.proofs.Conjunction.{by_test}
+use Rattle.pmp.specs.declared.Refusal.{Refusal}
 use Rattle.steps.specs.declared.Operation.{Operation}
 use Rattle.steps.specs.declared.Step.{Step}
 use Rattle.steps.specs.declared.Step.TheVariants.{Reset, Csr, Access as AccessStep, Event as EventStep}
@@ -23,7 +24,7 @@ module _ (P : Answer → Type 0) (each : OfNoAccess P) (s : State) (m : Memory) 
   csr_answer : (op : Operation) (number operand : ℕ) → Of (csr_step s op number operand)
   unfolding csr_step
   csr_answer op number operand =
-      by_test Of (ltb 4095 number) _ _ (λ t. each.refused 2)
+      by_test Of (ltb 4095 number) _ _ (λ t. each.refused Refusal.Argument)
       (λ t.
       by_test Of (illegal s.registers op number) _ _ (λ u. raised-answer P each s.registers 2 0)
       (λ u.
@@ -38,4 +39,4 @@ module _ (P : Answer → Type 0) (each : OfNoAccess P) (s : State) (m : Memory) 
 
   pub other-answer : (held : Bool) (step : Step) → is_access step ≡ false → Of (ruled_by held s m step)
   other-answer held step e =
-      by_test Of (is_reset step || held) (effect s m step) (refused s 3) (λ t. effect-answer step e) (λ t. each.refused 3)
+      by_test Of (is_reset step || held) (effect s m step) (refused s Refusal.State) (λ t. effect-answer step e) (λ t. each.refused Refusal.State)

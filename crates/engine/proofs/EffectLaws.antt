@@ -1,4 +1,5 @@
 -- The step rule: which step is a reset, what leaves the protection registers alone, and that no other step changes the grain. Assumes nothing.
+use Rattle.std.specs.Prelude.{Ok, Err}
 use Prim.Native.Nat.{ℕ}
 use mathlib.Core.Path.{◌≡◌, refl, sym, ap}
 use mathlib.Core.Bool.{true, false, cond, ◌||◌}
@@ -6,6 +7,7 @@ use lib.Dec.{eqb, ltb}
 use Rattle.pmp.specs.declared.Access.{Access}
 use Rattle.pmp.specs.declared.Access.TheVariants.{Fetch, Load, Store}
 use Rattle.bits.proofs.Conjunction.{contradiction, by_test}
+use Rattle.pmp.specs.declared.Refusal.{Refusal}
 use Rattle.steps.specs.declared.Operation.{Operation}
 use Rattle.steps.specs.declared.Step.{Step}
 use Rattle.steps.specs.declared.Step.TheVariants.{Reset, Csr, Access as AccessStep, Event as EventStep}
@@ -13,9 +15,9 @@ use Rattle.protection.specs.declared.Pmp.{Pmp}
 use Rattle.protection.specs.Read.{is_pmp, pmp_read}
 use Rattle.protection.specs.Write.{pmp_written}
 use Rattle.protection.proofs.WriteKept.{grain-written}
-use Rattle.paging.specs.declared.Reached.{Reached}
 use Rattle.paging.specs.Memory.{Memory}
-use Rattle.paging.specs.Access.{reached}
+use Rattle.paging.specs.declared.NotGranted.{NotGranted}
+use Rattle.paging.specs.Access.{Reached, reached}
 use Rattle.state.specs.declared.State.{State}
 use Rattle.state.specs.Hold.{can_hold}
 use Rattle.csr.specs.Permit.{illegal, attempts_write}
@@ -46,9 +48,9 @@ only-reset (AccessStep access address size) p = cc
 only-reset (EventStep event) p = cc
 
 decided-pmp : (s : State) (d : Reached) → s.pmp ≡ (access_decided s d).state.pmp
-decided-pmp s (Reached.Granted entry) = refl
-decided-pmp s (Reached.Fault cause tval entry) = refl
-decided-pmp s (Reached.Refused number) = refl
+decided-pmp s (Ok entry) = refl
+decided-pmp s (Err (NotGranted.Fault cause tval entry)) = refl
+decided-pmp s (Err (NotGranted.Refused refusal)) = refl
 
 at-pmp : (s : State) (m : Memory) (access : Access) (address size : ℕ) → s.pmp ≡ (access_at s m access address size).state.pmp
 unfolding access_at
@@ -79,7 +81,7 @@ csr_grain s op number operand =
     let other = register_step s op number operand in
     let apart = cond (eqb number 0x180) translation other in
     let trap = on_registers s (illegal_instruction s.registers) in
-    by_test (KeepsGrain s) (ltb 4095 number) (refused s 2) (cond (illegal s.registers op number) trap (cond (is_pmp number) protect apart)) (λ t. refl)
+    by_test (KeepsGrain s) (ltb 4095 number) (refused s Refusal.Argument) (cond (illegal s.registers op number) trap (cond (is_pmp number) protect apart)) (λ t. refl)
     (λ t.
     by_test (KeepsGrain s) (illegal s.registers op number) trap (cond (is_pmp number) protect apart) (λ u. refl)
     (λ u.
@@ -96,4 +98,4 @@ effect-grain s m (EventStep event) e = refl
 pub rule_grain : (s : State) (m : Memory) (step : Step) → is_reset step ≡ false → KeepsGrain s (step_rule s m step)
 unfolding step_rule
 rule_grain s m step e =
-    by_test (KeepsGrain s) (is_reset step || can_hold s) (effect s m step) (refused s 3) (λ t. effect-grain s m step e) (λ t. refl)
+    by_test (KeepsGrain s) (is_reset step || can_hold s) (effect s m step) (refused s Refusal.State) (λ t. effect-grain s m step e) (λ t. refl)

@@ -9,6 +9,7 @@ use Rattle.bits.proofs.Conjunction.{both, by_test, choose}
 use Rattle.bits.proofs.FoldLaws.{fold-keeps}
 use Rattle.pmp.specs.declared.Access.{Access}
 use Rattle.pmp.specs.declared.Access.TheVariants.{Fetch, Load, Store}
+use Rattle.pmp.specs.declared.Refusal.{Refusal}
 use Rattle.pmp.specs.Number.{fault_cause}
 use Rattle.pmp.specs.Rule.{none, is_size}
 use Rattle.steps.specs.declared.Operation.{Operation}
@@ -23,10 +24,9 @@ use Rattle.protection.specs.Hold.{pmp_holdable}
 use Rattle.protection.specs.Read.{is_pmp, pmp_read}
 use Rattle.protection.proofs.WriteKept.{pmp-written_kept}
 use Rattle.paging.specs.declared.Context.{Context}
-use Rattle.paging.specs.declared.Reached.{Reached}
 use Rattle.paging.specs.Satp.{satp_holdable}
 use Rattle.paging.specs.Memory.{Memory, lawful}
-use Rattle.paging.specs.Access.{page_fault_cause, reached}
+use Rattle.paging.specs.Access.{Reached, page_fault_cause, reached}
 use Rattle.paging.proofs.SatpLaws.{satp_kept}
 use Rattle.paging.proofs.Answered.{Answered, grants, faults, page_faults, fault-bound, page_fault-bound, reached_unlawful, reached_missized, reached-answered}
 use Rattle.state.specs.declared.State.{State}
@@ -101,7 +101,7 @@ module _ (s : State) (p : can_hold s ≡ true) where
       let other = register_step s op number operand in
       let apart = cond (eqb number 0x180) translation other in
       let trap = on_registers s (illegal_instruction s.registers) in
-      by_test Holds (ltb 4095 number) (refused s 2) (cond (illegal s.registers op number) trap (cond (is_pmp number) protect apart)) (λ t. p)
+      by_test Holds (ltb 4095 number) (refused s Refusal.Argument) (cond (illegal s.registers op number) trap (cond (is_pmp number) protect apart)) (λ t. p)
       (λ t.
       by_test Holds (illegal s.registers op number) trap (cond (is_pmp number) protect apart)
       (λ u. on_registers_lem _ (illegal_instruction_holdable s.registers registers_held))
@@ -151,7 +151,7 @@ module _ (s : State) (p : can_hold s ≡ true) where
 
     pub rule_holds : (step : Step) → Holds (step_rule s m step)
     unfolding step_rule
-    rule_holds step = by_test Holds (is_reset step || can_hold s) (effect s m step) (refused s 3) (λ t. effect-holds step) (λ t. p)
+    rule_holds step = by_test Holds (is_reset step || can_hold s) (effect s m step) (refused s Refusal.State) (λ t. effect-holds step) (λ t. p)
 
 -- over any list of steps
 pub after_holds : (steps : List Lent) (s : State) → can_hold s ≡ true → can_hold (after_all s steps) ≡ true

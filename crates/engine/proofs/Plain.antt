@@ -1,17 +1,19 @@
 -- No step answers with an interrupt: step 7 takes one and answers yes. Assumes nothing.
+use Rattle.std.specs.Prelude.{Ok, Err}
 use Prim.Native.Nat.{ℕ}
 use mathlib.Core.Path.{◌≡◌, refl}
 use mathlib.Core.Bool.{Bool}
 use Rattle.bits.proofs.Conjunction.{by_test}
 use Rattle.pmp.specs.declared.Access.{Access}
 use Rattle.pmp.specs.declared.Access.TheVariants.{Fetch, Load, Store}
+use Rattle.pmp.specs.declared.Refusal.{Refusal}
 use Rattle.steps.specs.declared.Step.{Step}
 use Rattle.steps.specs.declared.Step.TheVariants.{Reset, Csr, Access as AccessStep, Event as EventStep}
 use Rattle.steps.specs.declared.Answer.{Answer}
 use Rattle.steps.specs.Number.{answer_interrupt}
-use Rattle.paging.specs.declared.Reached.{Reached}
 use Rattle.paging.specs.Memory.{Memory}
-use Rattle.paging.specs.Access.{reached}
+use Rattle.paging.specs.declared.NotGranted.{NotGranted}
+use Rattle.paging.specs.Access.{Reached, reached}
 use Rattle.state.specs.declared.State.{State}
 use Rattle.trap.specs.Enter.{raised_by}
 use Rattle.trap.proofs.Answers.{OfNoAccess}
@@ -30,9 +32,9 @@ no_access_plain = record { done = refl; value = λ old. refl; flag = λ yes. ref
 module _ (s : State) (m : Memory) where
   decided-plain : (d : Reached) → Plain (access_decided s d)
   unfolding raised_by
-  decided-plain (Reached.Granted entry) = refl
-  decided-plain (Reached.Fault cause tval entry) = refl
-  decided-plain (Reached.Refused number) = refl
+  decided-plain (Ok entry) = refl
+  decided-plain (Err (NotGranted.Fault cause tval entry)) = refl
+  decided-plain (Err (NotGranted.Refused refusal)) = refl
 
   at_plain : (access : Access) (address size : ℕ) → Plain (access_at s m access address size)
   unfolding access_at
@@ -48,4 +50,4 @@ module _ (s : State) (m : Memory) where
   ruled_plain held (Csr op number operand) = other-answer NoInterrupt no_access_plain s m held (Csr op number operand) refl
   ruled_plain held (EventStep event) = other-answer NoInterrupt no_access_plain s m held (EventStep event) refl
   ruled_plain held (AccessStep access address size) =
-      by_test Plain held (access_step s m access address size) (refused s 3) (λ t. access_plain access address size) (λ t. refl)
+      by_test Plain held (access_step s m access address size) (refused s Refusal.State) (λ t. access_plain access address size) (λ t. refl)

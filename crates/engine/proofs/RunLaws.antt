@@ -1,29 +1,29 @@
 -- A run over three numbers a step, with four for its answer: one turn of the loop, and its end. Assumes nothing.
-use Prim.Native.Nat.{ℕ, suc, ◌+◌, ◌≤◌}
+use Prim.Native.Nat.{ℕ, suc, ◌+◌, ◌-◌, ◌*◌, ◌≤◌, ◌<◌}
 use mathlib.Core.Path.{◌≡◌, refl, sym, ap, ◌∙◌}
-use mathlib.Core.Bool.{Bool, true, false, ◌&&◌, ◌||◌}
+use mathlib.Core.Bool.{Bool, true, false, ◌||◌}
 use mathlib.Core.List.{List, [], ◌∷◌, ◌++◌}
 use native.Mathlib.Omega.{arith}
-use lib.Dec.{eqb}
-use lib.ListN.{length, get_or, drop, set}
-use lib.Seq.{sets}
-use Rattle.bits.specs.Lists.{Words}
+use borrow.Author.Tests.{eq-eqb}
+use lib.ListN.{length, get_or, take, drop}
+use Rattle.std.proofs.Common.{length-drop}
+use Rattle.std.proofs.Math.Seq.{take-length}
+use lib.Seq.{sets, length-sets}
+use Rattle.std.specs.Prelude.{Option, Some, None}
 use Rattle.bits.proofs.ListLaws.{set_past}
 use Rattle.bits.specs.Fold.{fold, outputs, any_step}
 use Rattle.steps.specs.declared.Step.{Step}
-use Rattle.steps.specs.declared.Decoded.{Decoded}
-use Rattle.steps.specs.declared.Decoded.TheVariants.{Formed, Nothing}
 use Rattle.steps.specs.declared.Answer.{Answer}
 use Rattle.steps.specs.declared.Answer.TheVariants.{Done, DoneValue, DoneFlag, Granted, Trapped, Refused}
 use Rattle.steps.specs.Number.{answer_interrupt, answer_numbers}
 use Rattle.steps.specs.Decode.{decoded, steps_of, name_steps}
-use Rattle.steps.proofs.NumberLaws.{Named, nothing_left}
+use Rattle.steps.proofs.NumberLaws.{Named, named}
 use Rattle.paging.specs.Memory.{Memory}
 use Rattle.state.specs.declared.State.{State}
 use Rattle.state.specs.Hold.{can_hold}
-use Rattle.state.specs.Words.{state_of}
-use Rattle.state.proofs.Back.{state-words}
+use Rattle.state.specs.Words.{words_of, state_of}
 use Rattle.engine.specs.declared.Taken.{Taken}
+use Rattle.engine.specs.declared.Told.{Told}
 use Rattle.engine.specs.Effects.{ruled_by, step_rule}
 use Rattle.engine.specs.Taking.{step_taken, remaps, named_taken, named_state}
 use Rattle.engine.specs.Runs.{lent_to, lent, state_after, after_all, answer_after, answers_of, any_remaps, ran}
@@ -34,12 +34,12 @@ taken-plain : (held : Bool) (s : State) (m : Memory) (step : Step) → answer_in
 unfolding step_taken
 taken-plain held s m step = ruled_plain s m held step
 
-pub named-plain : (held : Bool) (s : State) (m : Memory) (d : Decoded) {t : Taken} → t ≡ named_taken held s m d → answer_interrupt t.answer ≡ 0
+pub named-plain : (held : Bool) (s : State) (m : Memory) (d : Option Step) {t : Taken} → t ≡ named_taken held s m d → answer_interrupt t.answer ≡ 0
 named-plain held s m d e = ap (λ (x : Taken). answer_interrupt x.answer) e ∙ go d
   where
-    go : (d' : Decoded) → answer_interrupt (named_taken held s m d').answer ≡ 0
-    go (Formed step) = taken-plain held s m step
-    go Nothing = refl
+    go : (d' : Option Step) → answer_interrupt (named_taken held s m d').answer ≡ 0
+    go (Some step) = taken-plain held s m step
+    go None = refl
 
 assoc_or : (a b c : Bool) → ((a || b) || c) ≡ (a || (b || c))
 assoc_or true b c = refl
@@ -60,33 +60,13 @@ answers-put l i a rest = let e : i + 4 ≡ suc (suc (suc (suc i))) = omega arith
     go (DoneFlag flag) = refl
     go (Granted entry) = refl
     go (Trapped trap level entry) = refl
-    go (Refused number) = refl
+    go (Refused refusal) = refl
 
--- the four stores of an answer
-pub four-put : (l : List ℕ) (i : ℕ) (a : Answer) {v x y z u : List ℕ} → v ≡ answer_numbers a → x ≡ set l i (get_or v 0 0) → y ≡ set x (i + 1) (get_or v 1 0)
-    → z ≡ set y (i + 2) (get_or v 2 0) → u ≡ set z (i + 3) (get_or v 3 0) → u ≡ sets l i (answer_numbers a)
-four-put l i a ev ex ey ez eu =
-    let p : i + 1 ≡ suc i = omega arith in
-    let q : i + 2 ≡ suc (suc i) = omega arith in
-    let r : i + 3 ≡ suc (suc (suc i)) = omega arith in
-    eu ∙ rw (ez, ey, ex, ev, p, q, r) (go a)
-  where
-    go : (b : Answer)
-        → set (set (set (set l i (get_or (answer_numbers b) 0 0)) (suc i) (get_or (answer_numbers b) 1 0)) (suc (suc i)) (get_or (answer_numbers b) 2 0))
-        (suc (suc (suc i))) (get_or (answer_numbers b) 3 0)
-        ≡ sets l i (answer_numbers b)
-    go Done = refl
-    go (DoneValue old) = refl
-    go (DoneFlag flag) = refl
-    go (Granted entry) = refl
-    go (Trapped trap level entry) = refl
-    go (Refused number) = refl
+-- ---- one turn of the loop, on the numbers that are left
 
--- ---- one turn of the loop
-
-module _ (l : List ℕ) (i : ℕ) (m : Memory) (held : Bool) (s x : State) (t : Taken) (n : Named l i) (h : held ≡ can_hold s)
-    (e : t ≡ named_taken held s m (decoded (get_or l i 0) (get_or l (i + 1) 0) (get_or l (i + 2) 0)))
-    (f : x ≡ named_state held s m (decoded (get_or l i 0) (get_or l (i + 1) 0) (get_or l (i + 2) 0))) where
+module _ (l r : List ℕ) (m : Memory) (held : Bool) (s x : State) (t : Taken) (n : Named l 0) (q : r ≡ drop 3 l) (h : held ≡ can_hold s)
+    (e : t ≡ named_taken held s m (decoded (get_or l 0 0) (get_or l 1 0) (get_or l 2 0)))
+    (f : x ≡ named_state held s m (decoded (get_or l 0 0) (get_or l 1 0) (get_or l 2 0))) where
   ruled : ruled_by held s m n.step ≡ step_rule s m n.step
   unfolding step_rule
   ruled = rw h
@@ -97,75 +77,129 @@ module _ (l : List ℕ) (i : ℕ) (m : Memory) (held : Bool) (s x : State) (t : 
   state_is : x ≡ state_after s (lent_to m n.step)
   state_is = f ∙ ap (named_state held s m) n.formed ∙ ap (λ r. r.state) ruled
 
-  pub held_next : t.held ≡ can_hold x
-  unfolding step_taken
-  held_next = ap (λ (y : Taken). y.held) taken_is ∙ still_held held s m n.step h ∙ ap can_hold (sym (f ∙ ap (named_state held s m) n.formed))
+  steps-are : steps_of l ≡ n.step ∷ steps_of r
+  steps-are = n.steps ∙ ap (λ (y : List ℕ). n.step ∷ steps_of y) (sym q)
 
-  pub state_next : after_all x (lent m (steps_of (drop (i + 3) l))) ≡ after_all s (lent m (steps_of (drop i l)))
+  held_next : t.told.held ≡ can_hold x
+  unfolding step_taken
+  held_next = ap (λ (y : Taken). y.told.held) taken_is ∙ still_held held s m n.step h ∙ ap can_hold (sym (f ∙ ap (named_state held s m) n.formed))
+
+  state_next : after_all x (lent m (steps_of r)) ≡ after_all s (lent m (steps_of l))
   unfolding fold
-  state_next = rw (state_is, n.steps)
+  state_next = rw (state_is, steps-are)
 
-  remap_is : t.remap ≡ remaps s m n.step
+  remap_is : t.told.remap ≡ remaps s m n.step
   unfolding step_taken
-  remap_is = ap (λ (y : Taken). y.remap) taken_is ∙ rw ruled
+  remap_is = ap (λ (y : Taken). y.told.remap) taken_is ∙ rw ruled
 
-  pub remap_next : (r : Bool) → ((r || t.remap) || any_remaps x (lent m (steps_of (drop (i + 3) l)))) ≡ (r || any_remaps s (lent m (steps_of (drop i l))))
+  remap_next : (b : Bool) → ((b || t.told.remap) || any_remaps x (lent m (steps_of r))) ≡ (b || any_remaps s (lent m (steps_of l)))
   unfolding any_step
-  remap_next r =
-      rw (remap_is, state_is, n.steps)
-      (assoc_or r (remaps s m n.step) (any_remaps (state_after s (lent_to m n.step)) (lent m (steps_of (drop (i + 3) l)))))
+  remap_next b =
+      rw (remap_is, state_is, steps-are)
+      (assoc_or b (remaps s m n.step) (any_remaps (state_after s (lent_to m n.step)) (lent m (steps_of r))))
 
   answer_is : answer_numbers t.answer ≡ answer_after s (lent_to m n.step)
   unfolding step_taken
   answer_is = ap (λ (y : Taken). answer_numbers y.answer) taken_is ∙ ap (λ r. answer_numbers r.answer) ruled
 
-  pub answers_next : (place : ℕ) (ans put : List ℕ) → put ≡ sets ans place (answer_numbers t.answer)
-      → sets put (place + 4) (answers_of x (lent m (steps_of (drop (i + 3) l)))) ≡ sets ans place (answers_of s (lent m (steps_of (drop i l))))
+  answers_next : (place : ℕ) (ans put : List ℕ) → put ≡ sets ans place (answer_numbers t.answer)
+      → sets put (place + 4) (answers_of x (lent m (steps_of r))) ≡ sets ans place (answers_of s (lent m (steps_of l)))
   unfolding outputs
   answers_next place ans put p =
-      ap (λ (y : List ℕ). sets y (place + 4) (answers_of x (lent m (steps_of (drop (i + 3) l))))) p
-      ∙ answers-put ans place t.answer (answers_of x (lent m (steps_of (drop (i + 3) l))))
-      ∙ rw (answer_is, state_is, n.steps)
+      ap (λ (y : List ℕ). sets y (place + 4) (answers_of x (lent m (steps_of r)))) p
+      ∙ answers-put ans place t.answer (answers_of x (lent m (steps_of r)))
+      ∙ rw (answer_is, state_is, steps-are)
 
--- ---- the end of the loop
+-- what a run has done of the steps `whole`, from `words0` and `answers0` on, where the numbers `rest` are left
+pub record Ongoing (m : Memory) (words0 whole answers0 words : List ℕ) (held remap : Bool) (rest answers : List ℕ) (place : ℕ) : Type 0 where
+  pub same : length answers ≡ length answers0
+  pub named : name_steps rest ≡ true
+  pub held_is : held ≡ can_hold (state_of words)
+  pub state : after_all (state_of words) (lent m (steps_of rest)) ≡ after_all (state_of words0) (lent m (steps_of whole))
+  pub remap_is : (remap || any_remaps (state_of words) (lent m (steps_of rest))) ≡ any_remaps (state_of words0) (lent m (steps_of whole))
+  pub written : sets answers place (answers_of (state_of words) (lent m (steps_of rest))) ≡ sets answers0 0 (answers_of (state_of words0) (lent m (steps_of whole)))
+  pub placed : 3 * place + 4 * length rest ≡ 4 * length whole
 
-module _ (l : List ℕ) (i : ℕ) (m : Memory) (s : State) (done : length l ≤ i) where
-  pub state_end : s ≡ after_all s (lent m (steps_of (drop i l)))
-  unfolding fold
-  state_end = rw (nothing_left l i done)
+pub started : (m : Memory) (words whole answers : List ℕ) {held : Bool} → held ≡ can_hold (state_of words) → name_steps whole ≡ true
+    → Ongoing m words whole answers words held false whole answers 0
+started m words whole answers h n =
+    record { same = refl; named = n; held_is = h; state = refl; remap_is = refl; written = refl; placed = omega arith }
 
-  pub remap_end : (r : Bool) → r ≡ (r || any_remaps s (lent m (steps_of (drop i l))))
-  unfolding any_step
-  remap_end true = refl
-  remap_end false = rw (nothing_left l i done)
+-- what a slice's pattern leaves behind three numbers
+pub behind : (l : List ℕ) → 3 ≤ length l → take (length l - 3) (drop 3 l) ≡ drop 3 l
+behind l h =
+    let n : length l - 3 ≡ length (drop 3 l) = omega (arith, length-drop 3 l) in
+    rw n (take-length (drop 3 l))
 
-  pub answers_end : (place : ℕ) (ans : List ℕ) → ans ≡ sets ans place (answers_of s (lent m (steps_of (drop i l))))
-  unfolding outputs
-  answers_end place ans = rw (nothing_left l i done)
+-- three numbers are left where any is
+first-named : (l : List ℕ) → 3 ≤ length l → name_steps l ≡ true → Named l 0
+first-named l h e = named l 0 (omega arith) e
+
+-- fewer than three numbers name no step
+few_steps : (l : List ℕ) → length l < 3 → steps_of l ≡ []
+unfolding steps_of
+few_steps [] h = refl
+few_steps (number ∷ []) h = refl
+few_steps (number ∷ a ∷ []) h = refl
+few_steps (number ∷ a ∷ b ∷ l) h = absurd (omega arith)
+
+module _ {m : Memory} {words0 whole answers0 words : List ℕ} {held remap : Bool} {rest answers : List ℕ} {place : ℕ}
+    (o : Ongoing m words0 whole answers0 words held remap rest answers place) where
+  -- one more step
+  pub goes_on : {told : Told} {x y r : List ℕ} → 3 ≤ length rest → r ≡ drop 3 rest
+      → told ≡ (named_taken held (state_of words) m (decoded (get_or rest 0 0) (get_or rest 1 0) (get_or rest 2 0))).told
+      → state_of x ≡ named_state held (state_of words) m (decoded (get_or rest 0 0) (get_or rest 1 0) (get_or rest 2 0))
+      → y ≡ sets answers place (answer_numbers (named_taken held (state_of words) m (decoded (get_or rest 0 0) (get_or rest 1 0) (get_or rest 2 0))).answer)
+      → Ongoing m words0 whole answers0 x told.held (remap || told.remap) r y (place + 4)
+  goes_on {told} {x} {y} {r} k q e f p =
+      let n = first-named rest k o.named in
+      let s = state_of words in
+      let t = named_taken held s m (decoded (get_or rest 0 0) (get_or rest 1 0) (get_or rest 2 0)) in
+      let d : length r + 3 ≡ length rest = ap (λ (z : List ℕ). length z + 3) q ∙ omega (arith, length-drop 3 rest) in
+      record {
+        same = ap length p ∙ length-sets answers place (answer_numbers t.answer) ∙ o.same;
+        named = ap name_steps q ∙ n.rest;
+        held_is = ap (λ (z : Told). z.held) e ∙ held_next rest r m held s (state_of x) t n q o.held_is refl f;
+        state = state_next rest r m held s (state_of x) t n q o.held_is refl f ∙ o.state;
+        remap_is =
+            ap (λ (z : Told). (remap || z.remap) || any_remaps (state_of x) (lent m (steps_of r))) e
+            ∙ remap_next rest r m held s (state_of x) t n q o.held_is refl f remap
+            ∙ o.remap_is;
+        written = answers_next rest r m held s (state_of x) t n q o.held_is refl f place answers y p ∙ o.written;
+        placed = omega (arith, o.placed);
+      }
+
+  module _ (few : length rest < 3) where
+    none_left : steps_of rest ≡ []
+    none_left = few_steps rest few
+
+    pub state_end : state_of words ≡ after_all (state_of words0) (lent m (steps_of whole))
+    unfolding fold
+    state_end = rw none_left at o.state
+
+    pub remap_end : remap ≡ any_remaps (state_of words0) (lent m (steps_of whole))
+    unfolding any_step
+    remap_end = or-none remap ∙ (rw none_left at o.remap_is)
+      where
+        or-none : (b : Bool) → b ≡ (b || false)
+        or-none true = refl
+        or-none false = refl
+
+    pub answers_end : answers ≡ sets answers0 0 (answers_of (state_of words0) (lent m (steps_of whole)))
+    unfolding outputs
+    answers_end = rw none_left at o.written
 
 -- ---- the call
 
-abbrev pub run_test : List ℕ → List ℕ → Bool
-run_test w steps = eqb (length w) 43 && name_steps steps
-
 module _ (w : List ℕ) (m : Memory) (steps answers : List ℕ) where
-  pub unrun : run_test w steps ≡ false → ran w m steps answers ≡ record { remap = false; words = w; answers = answers; state = state_of w }
-  unfolding ran
-  unrun e = rw e
-
   -- the words left are those of the state left
-  pub run_done : run_test w steps ≡ true → (x : List ℕ) → Words 43 x → state_of x ≡ after_all (state_of w) (lent m (steps_of steps)) → x ≡ (ran w m steps answers).words
+  pub run_done : length w ≡ 43 → name_steps steps ≡ true
+      → ran w m steps answers
+      ≡ record {
+        remap = any_remaps (state_of w) (lent m (steps_of steps));
+        words = words_of (after_all (state_of w) (lent m (steps_of steps)));
+        answers = sets answers 0 (answers_of (state_of w) (lent m (steps_of steps)));
+        state = after_all (state_of w) (lent m (steps_of steps));
+      }
   unfolding ran
-  run_done e x t p = rw e (state-words x t p)
-
-  pub run_told : run_test w steps ≡ true → any_remaps (state_of w) (lent m (steps_of steps)) ≡ (ran w m steps answers).remap
-  unfolding ran
-  run_told e = rw e
-
-  pub run_answered : run_test w steps ≡ true → sets answers 0 (answers_of (state_of w) (lent m (steps_of steps))) ≡ (ran w m steps answers).answers
-  unfolding ran
-  run_answered e = rw e
-
-  pub run_state : run_test w steps ≡ true → after_all (state_of w) (lent m (steps_of steps)) ≡ (ran w m steps answers).state
-  unfolding ran
-  run_state e = rw e
+  run_done h n = rw (eq-eqb (length w) 43 h, n)

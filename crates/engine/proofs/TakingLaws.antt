@@ -2,6 +2,7 @@
 use mathlib.Core.Path.{◌≡◌, refl, sym, ap, ◌∙◌}
 use mathlib.Core.Bool.{Bool, true, false, cond, ◌||◌}
 use Rattle.bits.proofs.Conjunction.{neither}
+use Rattle.pmp.specs.declared.Refusal.{Refusal}
 use Rattle.steps.specs.declared.Step.{Step}
 use Rattle.steps.specs.declared.Answer.TheVariants.{Refused}
 use Rattle.protection.proofs.SameLaws.{same_pmp-refl}
@@ -22,7 +23,7 @@ module _ (held : Bool) (s : State) (m : Memory) (step : Step) {reset : Bool} (e 
       (rw u, rw u)
 
   pub taken_refused : (reset || held) ≡ false
-      → (record { answer = Refused 3; held = false; remap = false } ≡ step_taken held s m step) × (s ≡ (ruled_by held s m step).state)
+      → (record { answer = Refused Refusal.State; told = record { held = false; remap = false } } ≡ step_taken held s m step) × (s ≡ (ruled_by held s m step).state)
   unfolding step_taken
   taken_refused t =
       let n = neither reset held t in
@@ -33,7 +34,7 @@ module _ (held : Bool) (s : State) (m : Memory) (step : Step) {reset : Bool} (e 
 pub still_held : (held : Bool) (s : State) (m : Memory) (step : Step) → held ≡ can_hold s → (is_reset step || held) ≡ can_hold (ruled_by held s m step).state
 still_held held s m step q = go (is_reset step) held refl q
   where
-    go : (a b : Bool) → is_reset step ≡ a → b ≡ can_hold s → (a || b) ≡ can_hold (cond (a || b) (effect s m step) (refused s 3)).state
+    go : (a b : Bool) → is_reset step ≡ a → b ≡ can_hold s → (a || b) ≡ can_hold (cond (a || b) (effect s m step) (refused s Refusal.State)).state
     go true b e f = sym (rw (only-reset step e) (reset-holds s.pmp.grain))
     go false true e f = sym (effect-holds s (sym f) m step)
     go false false e f = f

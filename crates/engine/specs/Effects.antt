@@ -1,7 +1,8 @@
 -- 01, "Steps", and 02, [5], [8] and [9]: what each of the eighteen steps does to the state and answers, with the memory lent to it. No map is read.
-use Rattle.std.specs.Prelude.{ℕ, Bool, true, false, cond, ◌||◌, eqb, ltb}
+use Rattle.std.specs.Prelude.{ℕ, Bool, true, false, cond, ◌||◌, eqb, ltb, Ok, Err}
 use Rattle.pmp.specs.declared.Access.{Access}
 use Rattle.pmp.specs.declared.Access.TheVariants.{Fetch, Load, Store}
+use Rattle.pmp.specs.declared.Refusal.{Refusal}
 use Rattle.steps.specs.declared.Operation.{Operation}
 use Rattle.steps.specs.declared.Event.{Event}
 use Rattle.steps.specs.declared.Step.{Step}
@@ -15,10 +16,10 @@ use Rattle.protection.specs.declared.Pmp.{Pmp}
 use Rattle.protection.specs.Read.{is_pmp, pmp_read}
 use Rattle.protection.specs.Write.{pmp_written}
 use Rattle.paging.specs.declared.Context.{Context}
-use Rattle.paging.specs.declared.Reached.{Reached}
+use Rattle.paging.specs.declared.NotGranted.{NotGranted}
 use Rattle.paging.specs.Satp.{satp_written}
 use Rattle.paging.specs.Memory.{Memory}
-use Rattle.paging.specs.Access.{reached}
+use Rattle.paging.specs.Access.{Reached, reached}
 use Rattle.state.specs.declared.State.{State}
 use Rattle.state.specs.Hold.{can_hold, reset_state}
 use Rattle.csr.specs.Permit.{illegal, attempts_write}
@@ -37,9 +38,9 @@ pub record Effect : Type 0 where
 abbrev pub effect_of : State → Answer → Effect
 effect_of s answer = record { state = s; answer = answer }
 
--- a refusal returns its number and no more, and changes nothing
-abbrev pub refused : State → ℕ → Effect
-refused s number = effect_of s (Refused number)
+-- a refusal is answered and no more, and changes nothing
+abbrev pub refused : State → Refusal → Effect
+refused s refusal = effect_of s (Refused refusal)
 
 -- the state with one group of registers replaced
 abbrev pub with_registers : State → Registers → State
@@ -88,7 +89,7 @@ register_step s op number operand =
 unfoldable pub csr_step : State → Operation → ℕ → ℕ → Effect
 csr_step s op number operand =
     cond (ltb 4095 number)
-    (refused s 2)
+    (refused s Refusal.Argument)
     (cond (illegal s.registers op number)
     (on_registers s (illegal_instruction s.registers))
     (cond (is_pmp number)
@@ -99,9 +100,9 @@ csr_step s op number operand =
 
 -- a granted access changes nothing; a fault traps; both tell the entry that decided
 abbrev pub access_decided : State → Reached → Effect
-access_decided s (Reached.Granted entry) = effect_of s (Granted entry)
-access_decided s (Reached.Fault cause tval entry) = on_registers s (raised_by s.registers cause tval entry)
-access_decided s (Reached.Refused number) = refused s number
+access_decided s (Ok entry) = effect_of s (Granted entry)
+access_decided s (Err (NotGranted.Fault cause tval entry)) = on_registers s (raised_by s.registers cause tval entry)
+access_decided s (Err (NotGranted.Refused refusal)) = refused s refusal
 
 -- what an access goes by: satp, SUM and MXR of mstatus, its effective mode and its kind
 abbrev pub context_of : State → Access → Context
@@ -140,7 +141,7 @@ is_reset (EventStep event) = false
 
 -- refusal 3, where `held` says whether a hart can hold the state
 abbrev pub ruled_by : Bool → State → Memory → Step → Effect
-ruled_by held s m step = cond (is_reset step || held) (effect s m step) (refused s 3)
+ruled_by held s m step = cond (is_reset step || held) (effect s m step) (refused s Refusal.State)
 
 -- the step rule. Refusal 3: the state given is not one a hart can hold, at any call but step 0; it comes before 1, 2 and 13
 unfoldable pub step_rule : State → Memory → Step → Effect

@@ -1,11 +1,12 @@
 // CSR steps.
-ghost use Rattle.std.specs.Prelude.{◌≡◌, true, false, length};
+ghost use Rattle.std.specs.Prelude.{◌≡◌};
 ghost use Rattle.state.specs.Words.{state_of};
 ghost use Rattle.engine.specs.Effects.{pmp_operated, satp_operated, csr_step, protection_step, satp_step};
 ghost use Rattle.engine.specs.Taking.{taken};
 
-use crate::Taken;
-use crate::events::leave;
+use crate::events::on_registers;
+use crate::{Taken, Told, apart};
+use pmp::Refusal;
 use protection::Pmp;
 use state::{load_pmp, load_registers, load_satp, places, store_pmp, store_satp};
 use steps::{Answer, Operation};
@@ -25,22 +26,22 @@ fn operate_pmp(pmp: Pmp, operation: Operation, number: u64, operand: u64, old: u
 }
 
 // A CSR step on a protection register that is not illegal.
-fn step_protection(words: &mut [u64], operation: Operation, number: u64, operand: u64) -> Taken
-    requires { length words.old ≡ 43 }
+fn step_protection(words: &mut [u64; 43], operation: Operation, number: u64, operand: u64) -> Taken
     ensures value { result ≡ taken (state_of words.old) (protection_step (state_of words.old) operation number operand) }
     ensures words_after { state_of words.new ≡ (protection_step (state_of words.old) operation number operand).state }
 {
     let before = load_pmp(words);
     let old = protection::read_register(before, number);
     let after = operate_pmp(before, operation, number, operand, old);
-    protection::typed(after);
     let pc = trap::returns::next_pc(words[places::PC]);
     store_pmp(after, words);
     words[places::PC] = pc;
     Taken {
         answer: Answer::DoneValue(old),
-        held: true,
-        remap: !protection::same(before, after),
+        told: Told {
+            held: true,
+            remap: !protection::same(before, after),
+        },
     }
 }
 
@@ -56,8 +57,7 @@ fn operate_satp(satp: u64, operation: Operation, operand: u64) -> u64
 }
 
 // A CSR step on satp that is not illegal.
-fn step_satp(words: &mut [u64], operation: Operation, operand: u64) -> Taken
-    requires { length words.old ≡ 43 }
+fn step_satp(words: &mut [u64; 43], operation: Operation, operand: u64) -> Taken
     ensures value { result ≡ taken (state_of words.old) (satp_step (state_of words.old) operation operand) }
     ensures words_after { state_of words.new ≡ (satp_step (state_of words.old) operation operand).state }
 {
@@ -69,31 +69,21 @@ fn step_satp(words: &mut [u64], operation: Operation, operand: u64) -> Taken
     apart(Answer::DoneValue(old))
 }
 
-// A step that leaves the protection registers alone.
-fn apart(answer: Answer) -> Taken
-    ensures { result ≡ record { answer = answer; held = true; remap = false } }
-{
-    Taken {
-        answer,
-        held: true,
-        remap: false,
-    }
-}
-
 // The registers are read anew for each use, so that no word moves that is not needed.
-pub(crate) fn step_csr(words: &mut [u64], operation: Operation, number: u64, operand: u64) -> Taken
-    requires { length words.old ≡ 43 }
+pub(crate) fn step_csr(
+    words: &mut [u64; 43],
+    operation: Operation,
+    number: u64,
+    operand: u64,
+) -> Taken
     ensures value { result ≡ taken (state_of words.old) (csr_step (state_of words.old) operation number operand) }
     ensures words_after { state_of words.new ≡ (csr_step (state_of words.old) operation number operand).state }
 {
     if 4095 < number {
-        return apart(Answer::Refused(2));
+        return apart(Answer::Refused(Refusal::Argument));
     }
     if csr::is_illegal(load_registers(words), operation, number) {
-        return apart(leave(
-            trap::enter::illegal_instruction(load_registers(words)),
-            words,
-        ));
+        return apart(on_registers(words, trap::enter::illegal_instruction));
     }
     if protection::is_pmp(number) {
         return step_protection(words, operation, number, operand);

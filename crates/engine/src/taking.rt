@@ -1,14 +1,16 @@
 // A step of any family.
-ghost use Rattle.std.specs.Prelude.{◌≡◌, length};
-ghost use Rattle.paging.specs.Memory.{memory_at};
+ghost use Rattle.std.specs.Prelude.{◌≡◌};
+ghost use Rattle.paging.specs.Memory.{memory_of};
 ghost use Rattle.state.specs.Words.{state_of};
 ghost use Rattle.engine.specs.Effects.{is_reset, effect, ruled_by};
 ghost use Rattle.engine.specs.Taking.{effect_taken, step_taken};
 
-use crate::Taken;
 use crate::access::step_access;
 use crate::csrs::step_csr;
 use crate::events::step_event;
+use crate::{Taken, Told, apart};
+use paging::Memory;
+use pmp::Refusal;
 use state::places;
 use steps::{Answer, Step};
 
@@ -16,19 +18,13 @@ use steps::{Answer, Step};
 fn is_reset(step: Step) -> bool
     ensures { result ≡ is_reset step }
 {
-    match step {
-        Step::Reset => true,
-        Step::Csr(_, _, _) => false,
-        Step::Access(_, _, _) => false,
-        Step::Event(_) => false,
-    }
+    matches!(step, Step::Reset)
 }
 
 // What a step does where refusal 3 does not apply. No map is read.
-fn take_effect(words: &mut [u64], memory: &[u64], base: u64, step: Step) -> Taken
-    requires { length words.old ≡ 43 }
-    ensures value { result ≡ effect_taken (state_of words.old) (memory_at memory.now base) step }
-    ensures words_after { state_of words.new ≡ (effect (state_of words.old) (memory_at memory.now base) step).state }
+fn take_effect(words: &mut [u64; 43], memory: Memory<'_>, step: Step) -> Taken
+    ensures value { result ≡ effect_taken (state_of words.old) (memory_of memory.entry) step }
+    ensures words_after { state_of words.new ≡ (effect (state_of words.old) (memory_of memory.entry) step).state }
 {
     match step {
         Step::Reset => {
@@ -36,45 +32,34 @@ fn take_effect(words: &mut [u64], memory: &[u64], base: u64, step: Step) -> Take
             state::store(state::reset(grain), words);
             Taken {
                 answer: Answer::Done,
-                held: true,
-                remap: true,
+                told: Told {
+                    held: true,
+                    remap: true,
+                },
             }
         }
         Step::Csr(operation, number, operand) => step_csr(words, operation, number, operand),
-        Step::Access(access, address, size) => Taken {
-            answer: step_access(words, memory, base, access, address, size),
-            held: true,
-            remap: false,
-        },
-        Step::Event(event) => Taken {
-            answer: step_event(words, event),
-            held: true,
-            remap: false,
-        },
-    }
-}
-
-// A step, where it is known whether a hart can hold the state.
-pub(crate) fn take(words: &mut [u64], memory: &[u64], base: u64, held: bool, step: Step) -> Taken
-    requires { length words.old ≡ 43 }
-    ensures value { result ≡ step_taken held (state_of words.old) (memory_at memory.now base) step }
-    ensures words_after { state_of words.new ≡ (ruled_by held (state_of words.old) (memory_at memory.now base) step).state }
-{
-    if is_reset(step) | held {
-        return take_effect(words, memory, base, step);
-    }
-    Taken {
-        answer: Answer::Refused(3),
-        held: false,
-        remap: false,
+        Step::Access(access, address, size) => {
+            apart(step_access(words, memory, access, address, size))
+        }
+        Step::Event(event) => apart(step_event(words, event)),
     }
 }
 
 // A step on the words of a hart, which their state determines. Refusal 3 goes by `held`: whoever calls says whether a hart can hold that state, and where that is
 // true the step says it truly of the state that it leaves.
-pub fn step(words: &mut [u64; 43], memory: &[u64], base: u64, held: bool, step: Step) -> Taken
-    ensures value { result ≡ step_taken held (state_of words.old) (memory_at memory.now base) step }
-    ensures words_after { state_of words.new ≡ (ruled_by held (state_of words.old) (memory_at memory.now base) step).state }
+pub fn step(words: &mut [u64; 43], memory: Memory<'_>, held: bool, step: Step) -> Taken
+    ensures value { result ≡ step_taken held (state_of words.old) (memory_of memory.entry) step }
+    ensures words_after { state_of words.new ≡ (ruled_by held (state_of words.old) (memory_of memory.entry) step).state }
 {
-    take(words, memory, base, held, step)
+    if is_reset(step) | held {
+        return take_effect(words, memory, step);
+    }
+    Taken {
+        answer: Answer::Refused(Refusal::State),
+        told: Told {
+            held: false,
+            remap: false,
+        },
+    }
 }

@@ -15,4 +15,4 @@ is_done (DoneValue value) = false
 is_done (DoneFlag flag) = false
 is_done (Granted entry) = false
 is_done (Trapped trap level entry) = false
-is_done (Refused number) = false
+is_done (Refused refusal) = false

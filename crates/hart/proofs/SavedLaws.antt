@@ -5,7 +5,9 @@ use mathlib.Core.Bool.{Bool, true, false, cond, ◌&&◌}
 use mathlib.Core.List.{List}
 use lib.ListN.{length}
 use borrow.Author.Tests.{le-leb, lt-leb}
+use Rattle.std.specs.Prelude.{⊤, Result, Ok, Err, IsErrAnd}
 use Rattle.bits.specs.Lists.{Words}
+use Rattle.pmp.specs.declared.Refusal.{Refusal}
 use Rattle.steps.specs.declared.Answer.{Answer}
 use Rattle.steps.specs.declared.Answer.TheVariants.{Done, Refused}
 use Rattle.steps.specs.Number.{answer_numbers}
@@ -20,7 +22,7 @@ use Rattle.text.specs.Text.{Reading, other, length_of, written_to, read_text}
 use Rattle.text.proofs.Laws.{read-words}
 use Rattle.hart.specs.declared.Hart.{Hart}
 use Rattle.hart.specs.Steps.{hart_with}
-use Rattle.hart.specs.Saved.{form_holds, text_holds, saved_answer, saved_numbers, saved_buffer, by_text, converted_answer, converted_numbers, converted_buffer}
+use Rattle.hart.specs.Saved.{outcome_answer, form_holds, text_holds, saved_answer, saved_numbers, saved_buffer, state_in, by_text, converted_answer, converted_buffer}
 
 -- ---- saving: by what was found, the answer, its numbers and the buffer
 
@@ -31,12 +33,12 @@ module _ (form : Form) (h : Hart) (b : List ℕ) where
   answered : {a : Answer} {x : List ℕ} → a ≡ saved_answer form h b → x ≡ saved_buffer form h b → Saved a x
   answered e f = (e, (ap answer_numbers e, f))
 
-  pub save_unheld : can_hold h.state ≡ false → Saved (Refused 3) b
+  pub save_unheld : can_hold h.state ≡ false → Saved (Refused Refusal.State) b
   unfolding saved_answer saved_buffer
   save_unheld p = answered (rw p) (rw p)
 
   module _ (p : can_hold h.state ≡ true) where
-    pub save-short : length b < length_of form → Saved (Refused 6) b
+    pub save-short : length b < length_of form → Saved (Refused Refusal.Buffer) b
     unfolding saved_answer saved_buffer written_to
     save-short l =
         answered (rw (p, lt-leb (length_of form) (length b) l)) (rw (p, lt-leb (length_of form) (length b) l) (go (form_holds form h.state)))
@@ -46,7 +48,7 @@ module _ (form : Form) (h : Hart) (b : List ℕ) where
         go false = refl
 
     module _ (room : length_of form ≤ length b) where
-      pub save_unfit : form_holds form h.state ≡ false → Saved (Refused 12) b
+      pub save_unfit : form_holds form h.state ≡ false → Saved (Refused Refusal.Form) b
       unfolding saved_answer saved_buffer
       save_unfit t = answered (rw (p, le-leb (length_of form) (length b) room, t)) (rw (p, t))
 
@@ -61,14 +63,14 @@ pub read_as_lem : (form : Form) (text : List ℕ) {k : Bool} {ws : List ℕ} →
     → record { ok = k; words = ws } ≡ read_text form text
 read_as_lem form text e d = λ j. record { ok = e j; words = d j }
 
-module _ {A : Type 0} (form : Form) (text : List ℕ) (refused : ℕ → A) (read : State → A) {r : Reading} (e : r ≡ read_text form text) where
+module _ {A : Type 0} (form : Form) (text : List ℕ) (refused : Refusal → A) (read : State → A) {r : Reading} (e : r ≡ read_text form text) where
   -- where it is not in the form ..
-  pub text_unformed : r.ok ≡ false → refused 4 ≡ by_text form text refused read
+  pub text_unformed : r.ok ≡ false → refused Refusal.Text ≡ by_text form text refused read
   text_unformed o = rw (← e, o)
 
   -- .. and where it is, by whether a hart can hold its state, and so can the form
   pub text_judged : {s : State} (held : Bool) → r.ok ≡ true → s ≡ state_of r.words → text_holds form s ≡ held
-      → cond held (read s) (refused 5) ≡ by_text form text refused read
+      → cond held (read s) (refused Refusal.TextState) ≡ by_text form text refused read
   text_judged {s} held o d c = rw (← e, o, ← d, c)
 
 -- ---- the words of a text that is in the form
@@ -88,32 +90,51 @@ module _ (form : Form) (text : List ℕ) {r : Reading} {s : State} (e : r ≡ re
   pub words_judged : {k t : Bool} → k ≡ can_hold (loaded r.words) → t ≡ form_holds form s → text_holds form s ≡ (k && t)
   words_judged p q = sym (λ j. (p ∙ ap can_hold (all-loaded r.words words.count ∙ sym d)) j && q j)
 
+-- what is made of a text, from its state or its refusal
+module _ {A : Type 0} (form : Form) (text : List ℕ) (refused : Refusal → A) (read : State → A) where
+  pub state_made : {s : State} → ◌≡◌ {A = Result State Refusal} (Ok s) (by_text form text Err Ok) → read s ≡ by_text form text refused read
+  state_made {s} = go (read_text form text).ok (text_holds form (state_in form text))
+    where
+      go : (a b : Bool) → ◌≡◌ {A = Result State Refusal} (Ok s) (cond a (cond b (Ok (state_in form text)) (Err Refusal.TextState)) (Err Refusal.Text))
+          → read s ≡ cond a (cond b (read (state_in form text)) (refused Refusal.TextState)) (refused Refusal.Text)
+      go true true e = cc
+      go true false e = cc
+      go false b e = cc
+
+  pub refusal_made : {r : Refusal} → ◌≡◌ {A = Result State Refusal} (Err r) (by_text form text Err Ok) → refused r ≡ by_text form text refused read
+  refusal_made {r} = go (read_text form text).ok (text_holds form (state_in form text))
+    where
+      go : (a b : Bool) → ◌≡◌ {A = Result State Refusal} (Err r) (cond a (cond b (Ok (state_in form text)) (Err Refusal.TextState)) (Err Refusal.Text))
+          → refused r ≡ cond a (cond b (read (state_in form text)) (refused Refusal.TextState)) (refused Refusal.Text)
+      go true true e = cc
+      go true false e = cc
+      go false b e = cc
+
 -- ---- converting
 
-module _ (to : Form) (text b : List ℕ) {f : Form} (o : f ≡ other to) {r : Reading} (e : r ≡ read_text f text) where
+-- a refusal that is handed on
+pub handed_on : {q : Refusal} (r : Result ⊤ Refusal) → IsErrAnd r (λ e. e ≡ q) → outcome_answer r ≡ Refused q
+handed_on (Ok done) h = absurd h
+handed_on (Err e) h = ap Refused h
+
+module _ (to : Form) (text b : List ℕ) {f : Form} (o : f ≡ other to) where
   abbrev pub Converted : Answer → List ℕ → Type 0
-  Converted a x = (a ≡ converted_answer to text b) × ((answer_numbers a ≡ converted_numbers to text b) × (x ≡ converted_buffer to text b))
+  Converted a x = (a ≡ converted_answer to text b) × (x ≡ converted_buffer to text b)
 
   converted : {a : Answer} {x : List ℕ} → a ≡ by_text f text Refused (λ s. saved_answer to (hart_with s) b)
-      → x ≡ by_text f text (λ n. b) (λ s. saved_buffer to (hart_with s) b) → Converted a x
+      → x ≡ by_text f text (λ r. b) (λ s. saved_buffer to (hart_with s) b) → Converted a x
   unfolding converted_answer converted_buffer
-  converted {a} {x} p q =
-      let c : a ≡ converted_answer to text b = p ∙ ap (λ (g : Form). by_text g text Refused (λ s. saved_answer to (hart_with s) b)) o in
-      (c, (ap answer_numbers c, q ∙ ap (λ (g : Form). by_text g text (λ n. b) (λ s. saved_buffer to (hart_with s) b)) o))
+  converted p q = (
+    p ∙ ap (λ (g : Form). by_text g text Refused (λ s. saved_answer to (hart_with s) b)) o,
+    q ∙ ap (λ (g : Form). by_text g text (λ r. b) (λ s. saved_buffer to (hart_with s) b)) o,
+  )
 
-  pub convert_unformed : r.ok ≡ false → Converted (Refused 4) b
-  convert_unformed i =
-      converted (text_unformed f text Refused (λ s. saved_answer to (hart_with s) b) e i)
-      (text_unformed f text (λ n. b) (λ s. saved_buffer to (hart_with s) b) e i)
+  pub convert_refused : {r : Refusal} → ◌≡◌ {A = Result State Refusal} (Err r) (by_text f text Err Ok) → Converted (Refused r) b
+  convert_refused e =
+      converted (refusal_made f text Refused (λ s. saved_answer to (hart_with s) b) e) (refusal_made f text (λ r. b) (λ s. saved_buffer to (hart_with s) b) e)
 
-  module _ {s : State} (i : r.ok ≡ true) (d : s ≡ state_of r.words) where
-    pub convert_unheld : text_holds f s ≡ false → Converted (Refused 5) b
-    convert_unheld c =
-        converted (text_judged f text Refused (λ x. saved_answer to (hart_with x) b) e false i d c)
-        (text_judged f text (λ n. b) (λ x. saved_buffer to (hart_with x) b) e false i d c)
-
-    -- the rest is saving
-    pub convert_saved : text_holds f s ≡ true → {a : Answer} {x : List ℕ} → Saved to (hart_with s) b a x → Converted a x
-    convert_saved c w =
-        converted (w.0 ∙ text_judged f text Refused (λ x. saved_answer to (hart_with x) b) e true i d c)
-        (w.1.1 ∙ text_judged f text (λ n. b) (λ x. saved_buffer to (hart_with x) b) e true i d c)
+  -- the rest is saving
+  pub convert_saved : {s : State} → ◌≡◌ {A = Result State Refusal} (Ok s) (by_text f text Err Ok) → {a : Answer} {x : List ℕ}
+      → a ≡ saved_answer to (hart_with s) b → x ≡ saved_buffer to (hart_with s) b → Converted a x
+  convert_saved e p q =
+      converted (p ∙ state_made f text Refused (λ s. saved_answer to (hart_with s) b) e) (q ∙ state_made f text (λ r. b) (λ s. saved_buffer to (hart_with s) b) e)

@@ -61,19 +61,19 @@ module _ (h : Hart) (map : Map) (m : Memory) (step : Step) {held : Bool} (eh : h
   unfolding step_rule step_taken
   answer_is = ap (λ (x : Taken). x.answer) taken_is
 
-  remap_is : remaps h.state m step ≡ t.remap
+  remap_is : remaps h.state m step ≡ t.told.remap
   unfolding step_rule step_taken
-  remap_is = sym (ap (λ (x : Taken). x.remap) taken_is)
+  remap_is = sym (ap (λ (x : Taken). x.told.remap) taken_is)
 
-  by-remap : (b : Bool) → t.remap ≡ b → (n : Map) → n ≡ cond b (map_for s.pmp) map → handed_back (hart_with s) n t.answer ≡ stepped h map m step
+  by-remap : (b : Bool) → t.told.remap ≡ b → (n : Map) → n ≡ cond b (map_for s.pmp) map → handed_back (hart_with s) n t.answer ≡ stepped h map m step
   by-remap b e n p =
       (λ j. handed_back (hart_with (state_is j)) ((p ∙ (λ i. cond b (map_for (state_is i).pmp) map)) j) (answer_is j))
       ∙ ap (λ (c : Bool). handed_back (hart_with (step_rule h.state m step).state) (cond c (map_for (step_rule h.state m step).state.pmp) map) (step_rule h.state m step).answer)
       (sym (remap_is ∙ e))
       ∙ sym (step_parts h map m step)
 
-  pub map-stays : not t.remap ≡ true → handed_back (hart_with s) map t.answer ≡ stepped h map m step
-  map-stays n = by-remap false (not-true t.remap n) map refl
+  pub map-stays : not t.told.remap ≡ true → handed_back (hart_with s) map t.answer ≡ stepped h map m step
+  map-stays n = by-remap false (not-true t.told.remap n) map refl
 
-  pub map_anew : not t.remap ≡ false → {fresh : Map} → fresh ≡ map_for s.pmp → handed_back (hart_with s) fresh t.answer ≡ stepped h map m step
-  map_anew n {fresh} e = by-remap true (not-false t.remap n) fresh e
+  pub map_anew : not t.told.remap ≡ false → {fresh : Map} → fresh ≡ map_for s.pmp → handed_back (hart_with s) fresh t.answer ≡ stepped h map m step
+  map_anew n {fresh} e = by-remap true (not-false t.told.remap n) fresh e

@@ -5,7 +5,7 @@ ghost use Rattle.hart.specs.Queries.{query_answer, query_numbers};
 
 use crate::Hart;
 use map::Map;
-use pmp::{Access, Decision, Mode};
+use pmp::{Access, Decision, Mode, Refusal};
 
 impl Hart {
     // What a map says of an access: refusals 3, 1 and 7, or the lowest owner of its bytes decides.
@@ -19,7 +19,7 @@ impl Hart {
             let cfgs = pmp.cfgs;
             map::query(cfgs, map, mode, access, address, size)
         } else {
-            Decision::Refused(3)
+            Decision::Refused(Refusal::State)
         }
     }
 }

@@ -1,13 +1,15 @@
 // The eighteen steps.
 ghost use Rattle.std.specs.Prelude.{◌≡◌};
 ghost use Rattle.steps.specs.Number.{answer_numbers};
-ghost use Rattle.paging.specs.Memory.{memory_at};
+ghost use Rattle.paging.specs.Memory.{memory_of};
 ghost use Rattle.state.specs.Hold.{can_hold};
 ghost use Rattle.hart.specs.Steps.{map_for, reset_mapped, stepped, step_numbers};
 
 use crate::{Hart, Mapped, Stepped};
 use map::Map;
+use paging::Memory;
 use protection::Pmp;
+use state::State;
 use steps::Step;
 
 // The map of protection registers.
@@ -39,20 +41,19 @@ impl Hart {
         Mapped { hart, map }
     }
 
-    // One step: what 01's "Steps" says of it, with page tables in the words of `memory`, which stand at the physical address `base`. A refusal hands back
-    // hart and map as they were.
-    pub fn step(self, map: Map, memory: &[u64], base: u64, step: Step) -> Stepped
-        ensures value { result ≡ stepped self map (memory_at memory.now base) step }
-        ensures answer_value { answer_numbers result.answer ≡ step_numbers self map (memory_at memory.now base) step }
+    // One step: what 01's "Steps" says of it, with page tables in the memory that is lent. A refusal hands back hart and map as they were.
+    pub fn step(self, map: Map, memory: Memory<'_>, step: Step) -> Stepped
+        ensures value { result ≡ stepped self map (memory_of memory.entry) step }
+        ensures answer_value { answer_numbers result.answer ≡ step_numbers self map (memory_of memory.entry) step }
     {
         let state = self.state;
-        let mut words = state::to_words(state);
+        let mut words = <[u64; 43]>::from(state);
         let held = state::words_can_hold(&words);
-        let taken = engine::step(&mut words, memory, base, held, step);
+        let taken = engine::step(&mut words, memory, held, step);
         let answer = taken.answer;
-        let after = state::of_words(words);
+        let after = State::from(words);
         let hart = Hart { state: after };
-        if !taken.remap {
+        if !taken.told.remap {
             return Stepped { hart, map, answer };
         }
         let changed = after.pmp;

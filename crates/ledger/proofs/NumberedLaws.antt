@@ -1,8 +1,6 @@
 -- The numbers of the step that numbers form: the first is the same, and an elapsed step has its cycles. Assumes nothing.
-use Rattle.std.proofs.Common.{◌≡◌, ℕ, Bool, true, false, cond, eqb, get_or, sym, refl, ◌∙◌, subst, arith, eqb-true}
+use Rattle.std.proofs.Common.{◌≡◌, ℕ, Bool, true, false, cond, eqb, get_or, sym, refl, ◌∙◌, subst, arith, eqb-true, Option, Some}
 use Rattle.steps.specs.declared.Step.{Step}
-use Rattle.steps.specs.declared.Decoded.{Decoded}
-use Rattle.steps.specs.declared.Decoded.TheVariants.{Formed}
 use Rattle.steps.specs.Decode.{decoded}
 use Rattle.ledger.specs.Numbers.{numbers_of}
 
@@ -11,14 +9,14 @@ pub record FormedBy (n a : ℕ) (s : Step) : Type 0 where
   pub cycles : n ≡ 17 → get_or (numbers_of s) 1 0 ≡ a
 
 module _ (n a : ℕ) where
-  abbrev Numbered : Decoded → Type 0
-  Numbered d = (s : Step) → d ≡ Formed s → FormedBy n a s
+  abbrev Numbered : Option Step → Type 0
+  Numbered d = (s : Step) → d ≡ Some s → FormedBy n a s
 
-  else_numbered : (k : ℕ) (t : Step) (d : Decoded) → get_or (numbers_of t) 0 0 ≡ k → (k ≡ 17 → get_or (numbers_of t) 1 0 ≡ a) → Numbered d
-      → Numbered (cond (eqb n k) (Formed t) d)
+  else_numbered : (k : ℕ) (t : Step) (d : Option Step) → get_or (numbers_of t) 0 0 ≡ k → (k ≡ 17 → get_or (numbers_of t) 1 0 ≡ a) → Numbered d
+      → Numbered (cond (eqb n k) (Some t) d)
   else_numbered k t d e f other = go (eqb n k) refl
     where
-      go : (b : Bool) → eqb n k ≡ b → Numbered (cond b (Formed t) d)
+      go : (b : Bool) → eqb n k ≡ b → Numbered (cond b (Some t) d)
       go true h s q =
           let same : t ≡ s = cc in
           let n≡k = eqb-true n k h in

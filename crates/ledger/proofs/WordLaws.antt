@@ -3,14 +3,14 @@ use Prim.Native.Nat.{ℕ, zero, suc, ◌≤◌}
 use mathlib.Core.Path.{◌≡◌, refl, sym, ap, ◌∙◌}
 use mathlib.Core.Bool.{Bool, true, false, cond, false≢true}
 use mathlib.Core.List.{List, [], ◌∷◌, ◌++◌}
-use mathlib.Core.Option.{some, none}
+use Rattle.std.specs.Prelude.{Some, None}
 use native.Mathlib.Omega.{arith}
 use lib.Dec.{eqb, leb}
-use lib.ListN.{length, get_or, take, drop, length-append, take-append-drop}
-use lib.Seq.{sets, length-take-le, take_at, drop_at, get_or_at, get_or-drop}
-use borrow.Author.Tests.{eqb-true, leb-true, eq-eqb, ne_eqb}
+use lib.ListN.{length, get_or, set, take, drop, length-append, take-append-drop}
+use lib.Seq.{length-take-le, take_at, drop_at, get_or_at, get_or-drop}
+use borrow.Author.Tests.{eqb-true, leb-true, eq-eqb}
 use Rattle.bits.specs.Lists.{elements}
-use Rattle.bits.proofs.ListLaws.{elements_are, elements-take}
+use Rattle.bits.proofs.ListLaws.{elements_are}
 use Rattle.ledger.specs.declared.Ledger.{Ledger}
 use Rattle.ledger.specs.Rules.{new_ledger}
 use Rattle.ledger.specs.Words.{is_ledger, ledger_in, ledger_of, ledger_words, stored_in, lent_by}
@@ -36,10 +36,6 @@ ledger-length w h = (parts w h).twelve
 pub read_twelve : (w : List ℕ) → length w ≡ 12 → ledger_of w ≡ ledger_in w
 unfolding ledger_of
 read_twelve w h = rw (eq-eqb (length w) 12 h)
-
-pub read-other : (w : List ℕ) → (length w ≡ 12 → ⊥) → ledger_of w ≡ new_ledger
-unfolding ledger_of
-read-other w h = rw (ne_eqb (length w) 12 h)
 
 pub ten-totals : (w : List ℕ) → length (ledger_of w).totals ≡ 10
 unfolding ledger_of
@@ -104,16 +100,16 @@ module _ (l : Ledger) (ten : length l.totals ≡ 10) where
 -- ---- what a slice lends
 
 module _ (w : List ℕ) where
-  pub lent_some : is_ledger w ≡ true → lent_by w ≡ some (ledger_of w)
+  pub lent_some : is_ledger w ≡ true → lent_by w ≡ Some (ledger_of w)
   unfolding lent_by
   lent_some h = rw h
 
-  pub lent_none : is_ledger w ≡ false → lent_by w ≡ none
+  pub lent_none : is_ledger w ≡ false → lent_by w ≡ None
   unfolding lent_by
   lent_none h = rw h
 
-pub lent_back : (l : Ledger) → length l.totals ≡ 10 → lent_by (ledger_words l) ≡ some l
-lent_back l ten = lent_some (ledger_words l) (is_ledger_lem l ten) ∙ ap some (ledger-back l ten)
+pub lent_back : (l : Ledger) → length l.totals ≡ 10 → lent_by (ledger_words l) ≡ Some l
+lent_back l ten = lent_some (ledger_words l) (is_ledger_lem l ten) ∙ ap Some (ledger-back l ten)
 
 -- ---- reads and stores word by word
 
@@ -121,21 +117,14 @@ pub stored_twelve : (l : Ledger) (w : List ℕ) → length w ≡ 12 → stored_i
 unfolding stored_in
 stored_twelve l w h = rw (eq-eqb (length w) 12 h)
 
-pub stored_other : (l : Ledger) (w : List ℕ) → (length w ≡ 12 → ⊥) → stored_in l w ≡ w
-unfolding stored_in
-stored_other l w h = rw (ne_eqb (length w) 12 h)
-
 pub stored : (l : Ledger) (w : List ℕ) → is_ledger w ≡ true → stored_in l w ≡ ledger_words l
 stored l w h = stored_twelve l w (ledger-length w h)
 
--- ten words, one by one, are the first ten
-pub first-ten : (w : List ℕ) → length w ≡ 12 → elements 10 0 w ≡ take 10 w
-first-ten w h = elements-take w 10 0 (omega arith)
-
--- twelve stores leave nothing of what was there
+-- ten totals and two words leave nothing of what was there
 pub stores : (w totals : List ℕ) (tenant flag : ℕ) → length w ≡ 12 → length totals ≡ 10
-    → sets w 0 (elements 10 0 totals ++ (tenant ∷ flag ∷ [])) ≡ totals ++ (tenant ∷ flag ∷ [])
+    → set (set (totals ++ drop 10 w) 10 tenant) 11 flag ≡ totals ++ (tenant ∷ flag ∷ [])
 unfolding elements
 stores w totals tenant flag h ten =
-    ap (λ (v : List ℕ). sets v 0 (elements 10 0 totals ++ (tenant ∷ flag ∷ []))) (sym (elements_are w 12 0 h))
-    ∙ ap (λ (v : List ℕ). v ++ (tenant ∷ flag ∷ [])) (elements_are totals 10 0 ten)
+    ap (λ (v : List ℕ). set (set (totals ++ v) 10 tenant) 11 flag) (sym (last-two w h))
+    ∙ ap (λ (t : List ℕ). set (set (t ++ (get_or w 10 0 ∷ get_or w 11 0 ∷ [])) 10 tenant) 11 flag) (sym (elements_are totals 10 0 ten))
+    ∙ ap (λ (t : List ℕ). t ++ (tenant ∷ flag ∷ [])) (elements_are totals 10 0 ten)

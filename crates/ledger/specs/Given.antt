@@ -1,9 +1,6 @@
 -- 02, [4]: a step with the ledger lent at it, or with none. Step 18 can be formed with a ledger alone.
-use Rattle.std.specs.Prelude.{ℕ, Bool, false, cond, List, [], ◌∷◌, eqb, get_or}
-use Rattle.std.proofs.Math.Option.{Option, some, none}
+use Rattle.std.specs.Prelude.{ℕ, Bool, false, cond, List, [], ◌∷◌, eqb, get_or, Option, Some, None}
 use Rattle.steps.specs.declared.Step.{Step}
-use Rattle.steps.specs.declared.Decoded.{Decoded}
-use Rattle.steps.specs.declared.Decoded.TheVariants.{Formed, Nothing}
 use Rattle.steps.specs.Decode.{decoded, is_access}
 use Rattle.ledger.specs.Numbers.{numbers_of}
 use Rattle.ledger.specs.declared.Ledger.{Ledger}
@@ -36,19 +33,19 @@ accesses (Metered (Tenant a b) l) = false
 
 -- ---- the step that three numbers name, by the ledger that is lent, if any
 
-abbrev pub unmetered : Decoded → Option Given
-unmetered (Formed step) = some (Unmetered step)
-unmetered Nothing = none
+abbrev pub unmetered : Option Step → Option Given
+unmetered (Some step) = Some (Unmetered step)
+unmetered None = None
 
-abbrev pub metered : Ledger → Decoded → Option Given
-metered l (Formed step) = some (Metered (Plain step) l)
-metered l Nothing = none
+abbrev pub metered : Ledger → Option Step → Option Given
+metered l (Some step) = Some (Metered (Plain step) l)
+metered l None = None
 
 abbrev pub asked : Option Ledger → (step a b : ℕ) → Option Given
-asked none step a b = unmetered (decoded step a b)
-asked (some l) step a b = cond (eqb step 18) (some (Metered (Tenant a b) l)) (metered l (decoded step a b))
+asked None step a b = unmetered (decoded step a b)
+asked (Some l) step a b = cond (eqb step 18) (Some (Metered (Tenant a b) l)) (metered l (decoded step a b))
 
 -- the highest step number
 abbrev pub last_step : Option Ledger → ℕ
-last_step none = 17
-last_step (some l) = 18
+last_step None = 17
+last_step (Some l) = 18

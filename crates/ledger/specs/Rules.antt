@@ -1,7 +1,9 @@
 -- 02, [4]: what a step comes to in a ledger that is lent to it. A step is told by its number and arguments, an answer by its first two numbers.
-use Rattle.std.specs.Prelude.{ℕ, ◌+◌, ◌^◌, ◌<◌, ◌≡◌, Bool, false, cond, not, ◌&&◌, ◌||◌, get_or, set, replicate, leb, ltb, eqb}
+use Rattle.std.specs.Prelude.{ℕ, ◌+◌, ◌^◌, ◌<◌, ◌≡◌, Bool, false, cond, not, ◌&&◌, ◌||◌, get_or, set, replicate, leb, ltb, eqb, Option, Some, None, Result, Ok, Err}
 use Rattle.ledger.specs.declared.Ledger.{Ledger}
-use Rattle.ledger.specs.declared.Settled.{Settled}
+use Rattle.ledger.specs.declared.Posting.{Posting}
+use Rattle.ledger.specs.declared.Refusal.{Refusal}
+use Rattle.ledger.specs.declared.Refusal.TheVariants.{Tenant, Total}
 
 abbrev pub ledger_with : Ledger → ℕ → Bool → Ledger
 ledger_with l tenant idle = record { totals = l.totals; tenant = tenant; idle = idle }
@@ -28,13 +30,18 @@ names_tenant a b = leb a 7 && eqb b 0
 abbrev pub overfull : Ledger → ℕ → ℕ → Bool
 overfull l mode cycles = not (leb (total_of l (account_of l mode) + cycles) 18446744073709551615)
 
--- 9: step 18 names no tenant, or the current tenant is above 7, but not at step 0; then 10, at step 17; 0 for neither
-unfoldable pub refusal_by : Ledger → (step a b mode : ℕ) → ℕ
+-- "9" and "10"
+abbrev pub refusal_number : Refusal → ℕ
+refusal_number Tenant = 9
+refusal_number Total = 10
+
+-- 9: step 18 names no tenant, or the current tenant is above 7, but not at step 0; then 10, at step 17
+unfoldable pub refusal_by : Ledger → (step a b mode : ℕ) → Option Refusal
 refusal_by l step a b mode =
-    cond (eqb step 0) 0
-    (cond (ltb 7 l.tenant) 9
-    (cond (eqb step 18) (cond (names_tenant a b) 0 9)
-    (cond (eqb step 17 && overfull l mode a) 10 0)))
+    cond (eqb step 0) None
+    (cond (ltb 7 l.tenant) (Some Tenant)
+    (cond (eqb step 18) (cond (names_tenant a b) None (Some Tenant))
+    (cond (eqb step 17 && overfull l mode a) (Some Total) None)))
 
 -- ---- accepted steps
 
@@ -61,12 +68,14 @@ changed l step a mode kind value =
 abbrev pub posted : Ledger → (step a mode kind value : ℕ) → Ledger
 posted l step a mode kind value = cond (eqb kind 5) l (changed l step a mode kind value)
 
--- a posting: 9 or 10, which leave the ledger, or what the answered step makes of it
-unfoldable pub settled : Ledger → (step a b mode kind value : ℕ) → Settled
-settled l step a b mode kind value =
-    cond (eqb (refusal_by l step a b mode) 0)
-    (record { ledger = posted l step a mode kind value; refusal = 0 })
-    (record { ledger = l; refusal = refusal_by l step a b mode })
+-- what comes about but for a refusal
+abbrev pub unless : Option Refusal → Ledger → Result Ledger Refusal
+unless None after = Ok after
+unless (Some refusal) after = Err refusal
+
+-- a posting: a refusal, or what the answered step makes of the ledger
+unfoldable pub settled : Ledger → Posting → Result Ledger Refusal
+settled l p = unless (refusal_by l p.step p.a p.b p.mode) (posted l p.step p.a p.mode p.kind p.value)
 
 -- ---- what the parts of the code are given
 

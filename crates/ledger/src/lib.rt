@@ -3,7 +3,8 @@
 #![tactic(auto)]
 
 ghost use Rattle.std.specs.Prelude.{◌≡◌};
-ghost use Rattle.ledger.specs.Rules.{settled};
+ghost use Rattle.std.specs.Result.{result_err, result_unwrap_or};
+ghost use Rattle.ledger.specs.Rules.{refusal_number, settled};
 
 use steps::Step;
 
@@ -12,11 +13,10 @@ mod rules;
 mod words;
 
 pub use numbers::{metered_numbers, numbers_of};
-pub use rules::{new, refusal};
 pub use words::{is_ledger, load, post_in, refusal_in, store};
 
 // Totals of tenants 0 to 7, house and idle; the current tenant, which is refused if it is above 7; and whether idle time runs.
-#[derive(Clone, Copy)]
+#[derive(Clone, Copy, Debug, PartialEq, Eq)]
 pub struct Ledger {
     pub totals: [u64; 10],
     pub tenant: u64,
@@ -30,61 +30,73 @@ pub enum MeteredStep {
     Tenant(u64, u64),
 }
 
-// The ledger after a posting, and the refusal, 9 or 10, or 0.
-#[derive(Clone, Copy)]
-pub struct Settled {
-    pub ledger: Ledger,
-    pub refusal: u64,
+// Why a ledger refuses a step, with the number that 02 gives the refusal.
+#[derive(Clone, Copy, Debug, PartialEq, Eq)]
+pub enum Refusal {
+    // 9: the current tenant is above 7, or step 18 names none.
+    Tenant = 9,
+    // 10: the account's total would pass 2^64-1.
+    Total = 10,
 }
 
-// A posting by value: a step's number and arguments, the mode before it, and the first two numbers of its answer.
-pub fn settle(
-    ledger: Ledger,
-    step: u64,
-    a: u64,
-    b: u64,
-    mode: u64,
-    kind: u64,
-    value: u64,
-) -> Settled
-    ensures { result ≡ settled ledger step a b mode kind value }
-{
-    let refusal = rules::refusal(ledger, step, a, b, mode);
-    if refusal != 0 {
-        return Settled { ledger, refusal };
-    }
-    if kind == 5 {
-        return Settled { ledger, refusal: 0 };
-    }
-    let after = rules::change(ledger, step, a, mode, kind, value);
-    Settled {
-        ledger: after,
-        refusal: 0,
+impl From<Refusal> for u64 {
+    ghost from_gives = { λ refusal number. number ≡ refusal_number refusal };
+
+    fn from(refusal: Refusal) -> u64 {
+        refusal as u64
     }
 }
 
-// The posting call: the ledger is lent, and changed in place.
-pub fn post(ledger: &mut Ledger, step: u64, a: u64, b: u64, mode: u64, kind: u64, value: u64) -> u64
-    ensures { (result ≡ (settled ledger.old step a b mode kind value).refusal) × (ledger.new ≡ (settled ledger.old step a b mode kind value).ledger) }
-{
-    let p = settle(*ledger, step, a, b, mode, kind, value);
-    *ledger = p.ledger;
-    p.refusal
+// What is posted: a step's number and arguments, the mode before it, and the first two numbers of its answer. They are numbers, and no enums, as 02's rules
+// speak of the numbers, and answer for any.
+#[derive(Clone, Copy, Debug, PartialEq, Eq)]
+pub struct Posting {
+    pub step: u64,
+    pub a: u64,
+    pub b: u64,
+    pub mode: u64,
+    pub kind: u64,
+    pub value: u64,
 }
 
-// Lends a ledger that is had by value to `post`.
-pub fn post_own(
-    ledger: Ledger,
-    step: u64,
-    a: u64,
-    b: u64,
-    mode: u64,
-    kind: u64,
-    value: u64,
-) -> Settled
-    ensures { result ≡ settled ledger step a b mode kind value }
-{
-    let mut l = ledger;
-    let refusal = post(&mut l, step, a, b, mode, kind, value);
-    Settled { ledger: l, refusal }
+impl Ledger {
+    // A posting by value: the ledger after it.
+    #[tactic(auto, using(crate::proofs::RuleLaws::taken_fits), unfolding(crate::specs::Rules::settled))]
+    pub fn settle(self, posting: Posting) -> Result<Ledger, Refusal>
+        ensures { result ≡ settled self posting }
+    {
+        let Posting {
+            step,
+            a,
+            b,
+            mode,
+            kind,
+            ..
+        } = posting;
+        if let Some(refusal) = self.refusal(step, a, b, mode) {
+            return Err(refusal);
+        }
+        if kind == 5 {
+            return Ok(self);
+        }
+        Ok(self.change(posting))
+    }
+
+    // The posting call: the ledger is lent, and changed in place; a refusal leaves it as it was. It takes the ledger apart for `settle`, as 01 asks.
+    pub fn post(&mut self, posting: Posting) -> Result<(), Refusal>
+        ensures refusal { result_err result ≡ result_err (settled self.old posting) }
+        ensures ledger_after { self.new ≡ result_unwrap_or (settled self.old posting) self.old }
+    {
+        *self = self.settle(posting)?;
+        Ok(())
+    }
+
+    // Lends a ledger that is had by value to `post`.
+    pub fn post_own(self, posting: Posting) -> Result<Ledger, Refusal>
+        ensures { result ≡ settled self posting }
+    {
+        let mut after = self;
+        after.post(posting)?;
+        Ok(after)
+    }
 }

@@ -45,7 +45,7 @@ fn event_numbers(event: Event) -> [u64; 3]
     }
 }
 
-// The number of a step and its two arguments; one that the step does not name is 0.
+// The number of a step and its two arguments; one that the step does not name is 0. The laws speak of the three by place, so they are an array.
 pub fn numbers_of(step: Step) -> [u64; 3]
     ensures { result ≡ numbers_of step }
 {

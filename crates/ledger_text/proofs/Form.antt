@@ -4,24 +4,22 @@ use mathlib.Core.Path.{◌≡◌, refl, sym, ap, ◌∙◌}
 use mathlib.Core.Bool.{Bool, true, false, ◌&&◌, and-false}
 use mathlib.Core.List.{List, [], ◌++◌, map}
 use native.Mathlib.Numerals.{add-one}
-use borrow.Author.Tests.{leb-true, le-leb, lt-leb}
-use lib.Dec.{leb}
+use borrow.Author.Tests.{le-leb}
 use lib.ListN.{length, get_or, drop, set, replicate, drop_of_length-le}
 use lib.Seq.{sets}
 use Rattle.bits.specs.Same.{same_list}
-use Rattle.bits.proofs.BitSolve.{upto_sound}
-use Rattle.bits.proofs.Conjunction.{not-true-false}
+use Rattle.bits.proofs.Conjunction.{contradiction, not-true-false}
 use Rattle.bits.proofs.SameLaws.{same_refl}
 use Rattle.lines.specs.Lines.{bytes_of, hex_digits, line_of, lines_of, lines_length, number_at, places_of, words_in, is_text}
 use Rattle.lines.specs.Places.{with_word, with_words}
-use Rattle.lines.specs.declared.Field.{Field}
+use Rattle.std.specs.Prelude.{Some, None, is_some}
 use Rattle.lines.specs.Fields.{word_at}
 use Rattle.lines.proofs.Back.{from_place, text-only}
-use Rattle.lines.proofs.Reading.{lines-length, not-text, word_within}
+use Rattle.lines.proofs.Reading.{lines-length, not-text, text_judged, word_stands}
 use Rattle.ledger.specs.declared.Ledger.{Ledger}
 use Rattle.ledger.specs.Words.{is_ledger, ledger_of, stored_in}
 use Rattle.ledger.proofs.WordLaws.{stored_twelve}
-use Rattle.ledger_text.specs.LedgerText.{keys, text_of, text_length, is_ledger_text, ledger_of_text, read_as, no_ledger, read_ledger, written_to, written_length}
+use Rattle.ledger_text.specs.LedgerText.{keys, text_of, text_length, is_ledger_text, ledger_of_text, read_ledger, written_to, written_length}
 
 abbrev pub places : List ℕ
 places = places_of keys 0
@@ -41,13 +39,9 @@ unfolding bytes_of keys hex_digits line_of lines_of places_of with_word with_wor
 lines_filled ws = refl
 
 module _ (l : Ledger) (b : List ℕ) where
-  pub unwritten : length b < text_length → (0 ≡ written_length b) × (b ≡ written_to l b)
-  unfolding written_to
-  unwritten h = let e = lt-leb text_length (length b) h in (rw e, rw e)
-
   -- a text is copied to the front
   pub text-written : (t x : List ℕ) (ws : List ℕ) → text_length ≤ length b → ws ≡ stored_in l (replicate 12 0) → t ≡ lines_of keys 0 ws
-      → x ≡ t ++ drop text_length b → (text_length ≡ written_length b) × (x ≡ written_to l b)
+      → x ≡ t ++ drop text_length b → (Some text_length ≡ written_length b) × (x ≡ written_to l b)
   unfolding text_of written_to
   text-written t x ws h d e c =
       let r = le-leb text_length (length b) h in
@@ -61,16 +55,18 @@ module _ (t : List ℕ) where
   unfolding bytes_of keys places_of words_in
   words-start = refl
 
-  place-within : (i : ℕ) → i < 12 → get_or places i 0 + 17 ≤ text_length
+  pub words_more : (ws : List ℕ) (i w : ℕ) → i < 12 → w ≡ number_at 16 0 t (get_or places i 0)
+      → sets ws i (map (number_at 16 0 t) (drop i places)) ≡ sets (set ws i w) (i + 1) (map (number_at 16 0 t) (drop (i + 1) places))
   unfolding bytes_of keys places_of
-  place-within i h = leb-true _ _ (upto_sound 12 (λ k. leb (get_or places k 0 + 17) text_length) refl i h)
+  words_more ws i w h e = rw (from_place places i h, e, add-one i)
 
-  pub words_more : (ws : List ℕ) (i : ℕ) (f : Field) → i < 12 → length t ≡ text_length → f ≡ word_at t (get_or places i 0)
-      → sets ws i (map (number_at 16 0 t) (drop i places)) ≡ sets (set ws i f.word) (i + 1) (map (number_at 16 0 t) (drop (i + 1) places))
-  unfolding bytes_of keys places_of
-  words_more ws i f h n e =
-      let w : get_or places i 0 + 17 ≤ length t = rw n (place-within i h) in
-      rw (from_place places i h, e, word_within t (get_or places i 0) w, add-one i)
+  -- a text with a broken word is not in the form
+  pub word_broken : (i : ℕ) → i < 12 → length t ≡ text_length → word_at t (get_or places i 0) ≡ None → is_text keys t ≡ false
+  unfolding keys
+  word_broken i h n e = not-true-false (is_text keys t) (λ f.
+      let s = word_stands t keys 0 i (sym (text_judged t keys (n ∙ sym keys_length)) ∙ f) h in
+      let z : is_some (word_at t (get_or places i 0)) ≡ false = rw e in
+      contradiction s z)
 
   pub words-all : (ws : List ℕ) (i : ℕ) → 12 ≤ i → sets ws i (map (number_at 16 0 t) (drop i places)) ≡ ws
   unfolding bytes_of keys places_of
@@ -78,29 +74,32 @@ module _ (t : List ℕ) where
 
   -- ---- the answer
 
-  unread : is_ledger_text t ≡ false → no_ledger ≡ read_ledger t
+  pub unread : is_ledger_text t ≡ false → None ≡ read_ledger t
   unfolding read_ledger
   unread e = rw e
 
   -- the text is longer or shorter
-  pub length-unread : (length t ≡ text_length → ⊥) → no_ledger ≡ read_ledger t
+  pub length-unread : (length t ≡ text_length → ⊥) → None ≡ read_ledger t
   unfolding is_ledger_text
   length-unread h = unread (rw (not-text t keys (λ e. h (e ∙ keys_length))))
+
+  pub form_unread : is_text keys t ≡ false → None ≡ read_ledger t
+  unfolding is_ledger_text
+  form_unread e = unread (rw e)
 
   -- u is the text of the words that are found
   module _ (ws u : List ℕ) (w : ws ≡ words_in keys t) (d : u ≡ lines_of keys 0 ws) where
     again : u ≡ lines_of keys 0 (words_in keys t)
     again = rw (← w) d
 
-    pub other-unread : (t ≡ u → ⊥) → no_ledger ≡ read_ledger t
-    unfolding is_ledger_text
-    other-unread h = unread (rw (not-true-false (is_text keys t) (λ e. h (text-only keys t e ∙ sym again))))
+    pub other-unread : (t ≡ u → ⊥) → None ≡ read_ledger t
+    other-unread h = form_unread (not-true-false (is_text keys t) (λ e. h (text-only keys t e ∙ sym again)))
 
-    pub resting_unread : is_ledger ws ≡ false → no_ledger ≡ read_ledger t
+    pub resting_unread : is_ledger ws ≡ false → None ≡ read_ledger t
     unfolding is_ledger_text
     resting_unread e = unread (ap (λ (b : Bool). is_text keys t && b) (ap is_ledger (sym w) ∙ e) ∙ and-false (is_text keys t))
 
-    pub text-read : t ≡ u → is_ledger ws ≡ true → read_as (ledger_of ws) ≡ read_ledger t
+    pub text-read : t ≡ u → is_ledger ws ≡ true → Some (ledger_of ws) ≡ read_ledger t
     unfolding is_text is_ledger_text ledger_of_text read_ledger
     text-read e i =
         let s : is_text keys t ≡ true = ap (same_list t) (sym (e ∙ again)) ∙ same_refl t in

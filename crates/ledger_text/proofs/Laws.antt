@@ -14,7 +14,8 @@ use Rattle.ledger_text.proofs.WordLists.{words_append, two-words}
 use Rattle.ledger.specs.declared.Ledger.{Ledger}
 use Rattle.ledger.proofs.WordLaws as of-ledger
 use Rattle.ledger.specs.Words.{is_ledger, ledger_in, ledger_of, ledger_words}
-use Rattle.ledger_text.specs.LedgerText.{keys, text_of, is_ledger_text, ledger_of_text, read_as, read_ledger}
+use Rattle.std.specs.Prelude.{Some}
+use Rattle.ledger_text.specs.LedgerText.{keys, text_of, is_ledger_text, ledger_of_text, read_ledger}
 use Rattle.ledger_text.specs.RoundTrip.{IsLedger, RoundTrip}
 use Rattle.ledger_text.proofs.Form.{text-length}
 
@@ -73,6 +74,6 @@ pub round_trip : RoundTrip
 round_trip = record { ledger-back = ledger-back; text-back = text-back; one_text = one_text; sized = sized }
 
 -- what is read of a ledger's text is the ledger
-pub read_back_lem : (l : Ledger) → IsLedger l → read_ledger (text_of l) ≡ read_as l
+pub read_back_lem : (l : Ledger) → IsLedger l → read_ledger (text_of l) ≡ Some l
 unfolding read_ledger
 read_back_lem l i = let b = ledger-back l i in rw (b.0, b.1)

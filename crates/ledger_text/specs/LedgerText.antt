@@ -1,11 +1,9 @@
 -- 02, [4]: the text of a ledger, which is twelve lines of a key, `=`, 16 lower-case hexadecimal digits and a line feed.
-use Rattle.std.specs.Prelude.{ℕ, Bool, true, false, cond, ◌&&◌, List, [], ◌∷◌, ◌++◌, leb, length, drop}
+use Rattle.std.specs.Prelude.{ℕ, Bool, cond, ◌&&◌, List, [], ◌∷◌, ◌++◌, leb, length, drop, Option, Some, None}
 use Prim.Native.String.{String}
 use Rattle.lines.specs.Lines.{lines_of, words_in, is_text}
 use Rattle.ledger.specs.declared.Ledger.{Ledger}
-use Rattle.ledger.specs.Rules.{new_ledger}
 use Rattle.ledger.specs.Words.{is_ledger, ledger_of, ledger_words}
-use Rattle.ledger_text.specs.declared.Reading.{Reading}
 
 -- of the ten totals, the current tenant, and 1 where idle time runs, else 0
 unfoldable pub keys : List String
@@ -30,14 +28,8 @@ ledger_of_text t = ledger_of (words_in keys t)
 
 -- ---- reading
 
-abbrev pub read_as : Ledger → Reading
-read_as l = record { ok = true; ledger = l }
-
-abbrev pub no_ledger : Reading
-no_ledger = record { ok = false; ledger = new_ledger }
-
-unfoldable pub read_ledger : List ℕ → Reading
-read_ledger t = cond (is_ledger_text t) (read_as (ledger_of_text t)) no_ledger
+unfoldable pub read_ledger : List ℕ → Option Ledger
+read_ledger t = cond (is_ledger_text t) (Some (ledger_of_text t)) None
 
 -- ---- writing
 
@@ -48,5 +40,5 @@ has_room_for_text b = leb text_length (length b)
 unfoldable pub written_to : Ledger → List ℕ → List ℕ
 written_to l b = cond (has_room_for_text b) (text_of l ++ drop text_length b) b
 
-abbrev pub written_length : List ℕ → ℕ
-written_length b = cond (has_room_for_text b) text_length 0
+abbrev pub written_length : List ℕ → Option ℕ
+written_length b = cond (has_room_for_text b) (Some text_length) None

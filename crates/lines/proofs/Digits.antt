@@ -5,14 +5,13 @@ use mathlib.Core.Bool.{Bool, true, false, cond, ◌&&◌, and-true, and_assoc}
 use mathlib.Core.List.{List}
 use native.Mathlib.Omega.{arith}
 use native.Mathlib.Nat.{add-zero, pow-le-pow_right}
-use lib.Dec.{leb, ltb, eqb}
-use borrow.Author.Tests.{eqb-true, leb-true, leb-false, le-leb, lt-leb}
+use lib.Dec.{ltb, eqb}
+use borrow.Author.Tests.{eqb-true}
 use lib.ListN.{get_or, set}
 use lib.Pow.{pow-add}
 use lib.Seq.{sets}
 use Rattle.bits.proofs.BitSolve.{upto_sound}
 use Rattle.lines.specs.Lines.{bytes_of, hex_digit, hex_digits, digit_value, number_at}
-use Rattle.lines.specs.Places.{has_room}
 use Rattle.lines.specs.Fields.{are_digits}
 
 -- ---- writing
@@ -25,8 +24,8 @@ pub digit_found : (d : ℕ) → d < 16 → get_or digit_bytes d 0 ≡ hex_digit 
 unfolding bytes_of
 digit_found d h = eqb-true _ _ (upto_sound 16 (λ k. eqb (get_or digit_bytes k 0) (hex_digit k)) refl d h)
 
-pub digits-start : (t : List ℕ) (p w : ℕ) → sets t p (hex_digits 16 w) ≡ sets t (p + 0) (hex_digits 16 w)
-digits-start t p w = rw (add-zero p)
+pub digits_start : (t : List ℕ) (p w : ℕ) → sets t p (hex_digits 16 w) ≡ sets t (p + 0) (hex_digits 16 w)
+digits_start t p w = rw (add-zero p)
 
 pub digits_more : (t : List ℕ) (p w j d : ℕ) → j < 16 → d ≡ hex_digit (w / 2 ^ (60 - 4 * j) % 16)
     → sets t (p + j) (hex_digits (16 - j) w) ≡ sets (set t (p + j) d) (p + (j + 1)) (hex_digits (16 - (j + 1)) w)
@@ -37,9 +36,9 @@ digits_more t p w j d h e =
     let k : 60 - 4 * j ≡ 4 * (16 - (j + 1)) = omega arith in
     rw (n, s, e, k)
 
-pub digits-all : (t : List ℕ) (p w j : ℕ) → 16 ≤ j → sets t p (hex_digits (16 - j) w) ≡ t
+pub digits_all : (t : List ℕ) (p w j : ℕ) → 16 ≤ j → sets t p (hex_digits (16 - j) w) ≡ t
 unfolding hex_digits
-digits-all t p w j h = let n : 16 - j ≡ 0 = omega arith in rw n
+digits_all t p w j h = let n : 16 - j ≡ 0 = omega arith in rw n
 
 -- ---- reading
 
@@ -60,9 +59,6 @@ number_fits j w d hj hw hd =
 
 -- the number that is read, and whether each byte is a digit, once j of the bytes are passed
 module _ (t : List ℕ) (p : ℕ) where
-  pub read-start : (number_at 16 0 t p ≡ number_at 16 0 t (p + 0)) × (are_digits 16 t p ≡ are_digits 16 t (p + 0))
-  read-start = (rw (add-zero p), rw (add-zero p))
-
   module _ (w : ℕ) (r : Bool) (j : ℕ) where
     pub read_more : j < 16
         → (number_at (16 - j) w t (p + j) ≡ number_at (16 - (j + 1)) (w * 16 + digit_value (get_or t (p + j) 0)) t (p + (j + 1)))
@@ -77,12 +73,3 @@ module _ (t : List ℕ) (p : ℕ) where
     pub read_all : 16 ≤ j → (number_at (16 - j) w t (p + j) ≡ w) × ((r && are_digits (16 - j) t (p + j)) ≡ r)
     unfolding number_at are_digits
     read_all h = let e : 16 - j ≡ 0 = omega arith in (rw e, rw e (and-true r))
-
--- ---- the room for bytes
-
-pub room-from : (n p size : ℕ) → size ≤ n → leb p (n - size) ≡ has_room n p size
-room-from n p size h = go (leb p (n - size)) refl
-  where
-    go : (b : Bool) → leb p (n - size) ≡ b → b ≡ has_room n p size
-    go true e = sym (le-leb (p + size) n (omega (arith, leb-true p (n - size) e)))
-    go false e = sym (lt-leb (p + size) n (omega (arith, leb-false p (n - size) e)))

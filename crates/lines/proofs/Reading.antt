@@ -2,42 +2,23 @@
 use Prim.Native.Nat.{ℕ, zero, suc, ◌+◌, ◌*◌, ◌/◌, ◌%◌, ◌^◌, ◌≤◌, ◌<◌}
 use Prim.Native.String.{String}
 use mathlib.Core.Path.{◌≡◌, refl, sym, ap, ◌∙◌}
-use mathlib.Core.Bool.{Bool, true, false, ◌&&◌, and-true, and_assoc}
+use mathlib.Core.Bool.{Bool, true, false, cond, ◌&&◌, and_assoc}
 use mathlib.Core.List.{List, [], ◌∷◌, ◌++◌, map}
 use native.Mathlib.Omega.{arith}
 use native.Mathlib.Nat.{add-zero, div-one}
-use borrow.Author.Tests.{leb-false, le-leb, lt-leb}
+use borrow.Author.Tests.{le-leb}
 use lib.Dec.{eqb}
 use lib.ListN.{length, get_or, drop, drop_of_length-le, length-append}
 use Rattle.bits.specs.Same.{same_list}
+use Rattle.bits.proofs.Conjunction.{both, by_test}
 use Rattle.bits.proofs.SameLaws.{same_lengths}
 use Rattle.lines.specs.Lines.{key_of, hex_digit, hex_digits, lines_of, lines_length, digit_value, number_at, places_of, words_in, is_text}
-use Rattle.lines.specs.Places.{has_room}
-use Rattle.lines.specs.Fields.{are_key, has_key, are_digits, no_field, word_at, line_at, lines_at, all_ok, words_read}
+use Rattle.std.specs.Prelude.{Option, Some, None, is_some}
+use Rattle.lines.specs.Fields.{are_key, has_key, are_digits, is_word, word_at, line_at, lines_at, all_ok, words_read}
 use Rattle.lines.proofs.Digits.{value_below}
 use Rattle.lines.proofs.Back.{from_place, at_place, upper_part, line_parts}
 
 -- ---- a key
-
-module _ (t : List ℕ) (p : ℕ) (key : List ℕ) where
-  pub key_missing : has_room (length t) p (length key) ≡ false → has_key t p key ≡ false
-  unfolding has_key
-  key_missing e = rw e
-
-  pub key_start : has_room (length t) p (length key) ≡ true → has_key t p key ≡ are_key t (p + 0) key
-  unfolding has_key
-  key_start e = rw (e, add-zero p)
-
-  pub key_more : (r : Bool) (i : ℕ) → i < length key
-      → (r && are_key t (p + i) (drop i key)) ≡ ((r && eqb (get_or t (p + i) 0) (get_or key i 0)) && are_key t (p + (i + 1)) (drop (i + 1) key))
-  unfolding are_key
-  key_more r i h =
-      let s : p + (i + 1) ≡ p + i + 1 = omega arith in
-      rw (from_place key i h, s) (sym (and_assoc r _ _))
-
-  pub key_all : (r : Bool) (i : ℕ) → length key ≤ i → (r && are_key t (p + i) (drop i key)) ≡ r
-  unfolding are_key
-  key_all r i h = rw (drop_of_length-le key h) (and-true r)
 
 key_same : (key t rest : List ℕ) (p : ℕ) → p + length key ≤ length t
     → same_list (drop p t) (key ++ rest) ≡ (are_key t p key && same_list (drop (p + length key) t) rest)
@@ -87,41 +68,49 @@ digits_same (suc n) v t rest p h =
 and_four : (a b c d : Bool) → (a && (b && (c && d))) ≡ ((a && (b && c)) && d)
 and_four a b c d = simp and_assoc
 
-pub word_missing : (t : List ℕ) (p : ℕ) → has_room (length t) p 17 ≡ false → no_field ≡ word_at t p
+-- a word that is read is the number of its digits
+pub word_read : (t : List ℕ) (p w : ℕ) → word_at t p ≡ Some w → w ≡ number_at 16 0 t p
 unfolding word_at
-word_missing t p e = rw e
+word_read t p w = go (is_word t p)
+  where
+    go : (b : Bool) → cond b (Some (number_at 16 0 t p)) None ≡ Some w → w ≡ number_at 16 0 t p
+    go true e = cc
+    go false e = cc
 
-pub word_within : (t : List ℕ) (p : ℕ) → p + 17 ≤ length t
-    → word_at t p ≡ record { ok = are_digits 16 t p && eqb (get_or t (p + 16) 0) 10; word = number_at 16 0 t p }
+-- a word is read exactly where there is one
+word_is : (t : List ℕ) (p : ℕ) → is_some (word_at t p) ≡ is_word t p
 unfolding word_at
-word_within t p h = rw (le-leb (p + 17) (length t) h)
+word_is t p = by_test (λ (o : Option ℕ). is_some o ≡ is_word t p) (is_word t p) (Some (number_at 16 0 t p)) None sym sym
 
-pub line_missing : (t key : List ℕ) (p : ℕ) → has_room (length t) p (length key) ≡ false → no_field ≡ line_at t p key
-unfolding line_at
-line_missing t key p e =
-    let n : has_room (length t) (p + length key) 17 ≡ false =
-    lt-leb (p + length key + 17) (length t) (omega (arith, leb-false (p + length key) (length t) e)) in
-    rw (key_missing t p key e, ← word_missing t (p + length key) n)
-
-module _ (t key : List ℕ) (p : ℕ) (room : p + length key + 17 ≤ length t) where
-  line_within : line_at t p key ≡ record {
-    ok = are_key t p key && (are_digits 16 t (p + length key) && eqb (get_or t (p + length key + 16) 0) 10);
-    word = number_at 16 0 t (p + length key);
-  }
-  unfolding has_key line_at
-  line_within = rw (le-leb (p + length key) (length t) (omega arith), word_within t (p + length key) room)
-
-  line_same : (rest : List ℕ)
-      → same_list (drop p t) (key ++ (hex_digits 16 (number_at 16 0 t (p + length key)) ++ 10 ∷ rest))
-      ≡ ((line_at t p key).ok && same_list (drop (p + length key + 17) t) rest)
-  unfolding same_list
-  line_same rest =
+module _ (t key : List ℕ) (p : ℕ) where
+  line_is : is_some (line_at t p key) ≡ (has_key t p key && is_word t (p + length key))
+  unfolding line_at
+  line_is =
       let q = p + length key in
-      let digits = hex_digits 16 (number_at 16 0 t q) in
-      let s : q + 17 ≡ q + 16 + 1 = omega arith in
-      key_same key t (digits ++ 10 ∷ rest) p (omega arith)
-      ∙ rw (line_within, digits_same 16 0 t (10 ∷ rest) q (omega arith), from_place t (q + 16) (omega arith), s)
-      (and_four (are_key t p key) (are_digits 16 t q) (eqb (get_or t (q + 16) 0) 10) (same_list (drop (q + 16 + 1) t) rest))
+      by_test (λ (o : Option ℕ). is_some o ≡ (has_key t p key && is_word t q)) (has_key t p key) (word_at t q) None (λ e. rw e (word_is t q)) (λ e. rw e)
+
+  -- what is read, with the key and without it, is the number of its digits
+  pub line_found : is_some (line_at t p key) ≡ true
+      → (line_at t p key ≡ Some (number_at 16 0 t (p + length key))) × (word_at t (p + length key) ≡ Some (number_at 16 0 t (p + length key)))
+  unfolding word_at line_at
+  line_found e = let h = both (has_key t p key) (is_word t (p + length key)) (sym line_is ∙ e) in (rw (h.0, h.1), rw h.1)
+
+  module _ (room : p + length key + 17 ≤ length t) where
+    line_within : is_some (line_at t p key) ≡ (are_key t p key && (are_digits 16 t (p + length key) && eqb (get_or t (p + length key + 16) 0) 10))
+    unfolding has_key is_word
+    line_within = line_is ∙ rw (le-leb (p + length key) (length t) (omega arith), le-leb (p + length key + 17) (length t) room)
+
+    line_same : (rest : List ℕ)
+        → same_list (drop p t) (key ++ (hex_digits 16 (number_at 16 0 t (p + length key)) ++ 10 ∷ rest))
+        ≡ (is_some (line_at t p key) && same_list (drop (p + length key + 17) t) rest)
+    unfolding same_list
+    line_same rest =
+        let q = p + length key in
+        let digits = hex_digits 16 (number_at 16 0 t q) in
+        let s : q + 17 ≡ q + 16 + 1 = omega arith in
+        key_same key t (digits ++ 10 ∷ rest) p (omega arith)
+        ∙ rw (line_within, digits_same 16 0 t (10 ∷ rest) q (omega arith), from_place t (q + 16) (omega arith), s)
+        (and_four (are_key t p key) (are_digits 16 t q) (eqb (get_or t (q + 16) 0) 10) (same_list (drop (q + 16 + 1) t) rest))
 
 -- ---- lines
 
@@ -143,13 +132,26 @@ module _ (t : List ℕ) where
       let room : q + 17 ≤ length t = omega arith in
       let a = at_place ws (map (number_at 16 0 t) (places_of ks (q + 17))) i (number_at 16 0 t q) e in
       rw (line_parts k (get_or ws i 0) (lines_of ks (i + 1) ws), a.0)
-      (line_same t (key_of k) p room (lines_of ks (i + 1) ws) ∙ ap (λ (b : Bool). (line_at t p (key_of k)).ok && b) (lines_same ks ws (q + 17) (i + 1) (omega arith) a.1))
+      (line_same t (key_of k) p room (lines_of ks (i + 1) ws) ∙ ap (λ (b : Bool). is_some (line_at t p (key_of k)) && b) (lines_same ks ws (q + 17) (i + 1) (omega arith) a.1))
 
-  words_same : (ks : List String) (p : ℕ) → p + lines_length ks ≡ length t → map (number_at 16 0 t) (places_of ks p) ≡ words_read (lines_at ks t p)
-  unfolding lines_length places_of lines_at words_read
+  words_same : (ks : List String) (p : ℕ) → all_ok (lines_at ks t p) ≡ true → map (number_at 16 0 t) (places_of ks p) ≡ words_read (lines_at ks t p)
+  unfolding places_of lines_at all_ok words_read
   words_same [] p h = refl
   words_same (k ∷ ks) p h =
-      rw (line_within t (key_of k) p (omega arith), words_same ks (p + length (key_of k) + 17) (omega arith))
+      let q = p + length (key_of k) in
+      let b = both (is_some (line_at t p (key_of k))) (all_ok (lines_at ks t (q + 17))) h in
+      rw ((line_found t (key_of k) p b.0).0, words_same ks (q + 17) b.1)
+
+  -- where all lines are in the form, so is each word
+  pub word_stands : (ks : List String) (p i : ℕ) → all_ok (lines_at ks t p) ≡ true → i < length ks → is_some (word_at t (get_or (places_of ks p) i 0)) ≡ true
+  unfolding places_of lines_at all_ok
+  word_stands [] p i h l = absurd (omega arith)
+  word_stands (k ∷ ks) p zero h l =
+      let q = p + length (key_of k) in
+      rw (line_found t (key_of k) p (both (is_some (line_at t p (key_of k))) (all_ok (lines_at ks t (q + 17))) h).0).1
+  word_stands (k ∷ ks) p (suc i) h l =
+      let q = p + length (key_of k) in
+      word_stands ks (q + 17) i (both (is_some (line_at t p (key_of k))) (all_ok (lines_at ks t (q + 17))) h).1 (omega arith)
 
   -- ---- texts
 
@@ -158,9 +160,9 @@ module _ (t : List ℕ) where
     unfolding is_text words_in
     text_judged h = lines_same ks (words_in ks t) 0 0 (omega arith) refl
 
-    pub words_judged : length t ≡ lines_length ks → words_in ks t ≡ words_read (lines_at ks t 0)
+    pub words_judged : all_ok (lines_at ks t 0) ≡ true → words_in ks t ≡ words_read (lines_at ks t 0)
     unfolding words_in
-    words_judged h = words_same ks 0 (omega arith)
+    words_judged h = words_same ks 0 h
 
     -- a text that is longer or shorter is not in the form
     pub not-text : (length t ≡ lines_length ks → ⊥) → is_text ks t ≡ false

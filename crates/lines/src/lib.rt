@@ -1,18 +1,11 @@
 // Texts of lines, each a key, `=`, sixteen hexadecimal digits and a line feed: words are written to given places, and lines are read.
 #![tactic(auto)]
 
-ghost use Rattle.std.specs.Prelude.{◌≡◌, ◌+◌, ◌≤◌, ◌%◌, length, get_or};
+ghost use Rattle.std.specs.Prelude.{◌≡◌, ◌+◌, ◌≤◌, ◌<◌, ◌%◌, length};
 ghost use Rattle.std.proofs.lemmas.List.Edits.{sets};
 ghost use Rattle.lines.specs.Lines.{hex_digit, hex_digits, digit_value};
 ghost use Rattle.lines.specs.Places.{has_room, with_word, with_words};
 ghost use Rattle.lines.specs.Fields.{has_key, word_at, line_at};
-
-// A word that is read, and whether what was read is in the form.
-#[derive(Clone, Copy)]
-pub struct Field {
-    pub ok: bool,
-    pub word: u64,
-}
 
 // The lower-case hexadecimal digit of the lowest four bits.
 fn hex_digit(number: u64) -> u8
@@ -24,9 +17,10 @@ fn hex_digit(number: u64) -> u8
 
 // What a lower-case hexadecimal digit stands for.
 fn digit_value(byte: u8) -> u64
-    ensures { result ≡ digit_value byte }
+    ensures value { result ≡ digit_value byte }
+    ensures upper_bound { result < 16 }
 {
-    let code = byte as u64;
+    let code = u64::from(byte);
     if code < 58 {
         code % 16
     } else {
@@ -34,30 +28,27 @@ fn digit_value(byte: u8) -> u64
     }
 }
 
-// Whether so many bytes from a place on lie within a text.
+// Whether so many bytes from a place on lie within a text. Here and below a place goes beside the text, and no slice begins there: the places are numbers that
+// the definitions of a text's lines give.
 fn has_room(length: usize, place: usize, size: usize) -> bool
     ensures { result ≡ has_room length place size }
 {
-    if length < size {
-        false
-    } else {
-        place <= length - size
-    }
+    size <= length && place <= length - size
 }
 
+#[tactic(auto, using(crate::proofs::Digits::digits_start, crate::proofs::Digits::digits_more, crate::proofs::Digits::digits_all), unfolding(crate::specs::Lines::bytes_of))]
 fn write_digits(word: u64, text: &mut [u8], place: usize)
     requires { place + 16 ≤ length text.old }
     ensures { text.new ≡ sets text.old place (hex_digits 16 word) }
 {
     let digits = *b"0123456789abcdef";
-    let mut j: usize = 0;
-    while j < 16 {
+    for j in 0..16 {
         text[place + j] = digits[((word >> (60 - 4 * j)) % 16) as usize];
-        j += 1;
     }
 }
 
 // Writes the sixteen digits of a word from a place on; nothing where they have no room.
+#[tactic(auto, unfolding(crate::specs::Places::with_word))]
 pub fn write_word(word: u64, text: &mut [u8], place: usize)
     ensures { text.new ≡ with_word place word text.old }
 {
@@ -67,24 +58,18 @@ pub fn write_word(word: u64, text: &mut [u8], place: usize)
     write_digits(word, text, place);
 }
 
-fn word(words: &[u64], i: usize) -> u64
-    ensures { result ≡ get_or words.now i 0 }
-{
-    if i < words.len() { words[i] } else { 0 }
-}
-
 // Writes a word's digits to each place.
+#[tactic(auto, unfolding(crate::specs::Places::with_words))]
 pub fn write_words(places: &[usize], words: &[u64], text: &mut [u8])
     ensures { text.new ≡ with_words places.now 0 words.now text.old }
 {
-    let mut i: usize = 0;
-    while i < places.len() {
-        write_word(word(words, i), text, places[i]);
-        i += 1;
+    for (i, place) in places.iter().enumerate() {
+        write_word(words.get(i).copied().unwrap_or(0), text, *place);
     }
 }
 
 // Whether a key stands at a place. Every byte is looked at, and so below: without an early end several are compared at a time.
+#[tactic(auto, unfolding(crate::specs::Fields::has_key, crate::specs::Fields::are_key))]
 pub fn has_key(text: &[u8], place: usize, key: &[u8]) -> bool
     ensures { result ≡ has_key text.now place key.now }
 {
@@ -92,46 +77,39 @@ pub fn has_key(text: &[u8], place: usize, key: &[u8]) -> bool
         return false;
     }
     let mut same = true;
-    let mut i: usize = 0;
-    while i < key.len() {
-        same = same & (text[place + i] == key[i]);
-        i += 1;
+    for (i, byte) in key.iter().enumerate() {
+        same = same & (text[place + i] == *byte);
     }
     same
 }
 
-// Reads the sixteen digits and the line feed from a place on. Where the text ends before, they are not ok, and the word is 0.
-pub fn read_word(text: &[u8], place: usize) -> Field
+// Reads the sixteen digits and the line feed from a place on, if they stand there.
+#[tactic(auto, unfolding(crate::specs::Fields::is_word, crate::specs::Fields::word_at))]
+pub fn read_word(text: &[u8], place: usize) -> Option<u64>
     ensures { result ≡ word_at text.now place }
 {
     if !has_room(text.len(), place, 17) {
-        return Field { ok: false, word: 0 };
+        return None;
     }
     let mut ok = true;
     let mut word: u64 = 0;
-    let mut j: usize = 0;
-    while j < 16 {
+    for j in 0..16 {
         let byte = text[place + j];
         let value = digit_value(byte);
         ok = ok & (byte == hex_digit(value));
         word = word * 16 + value;
-        j += 1;
     }
     ok = ok & (text[place + 16] == b'\n');
-    Field { ok, word }
+    if ok { Some(word) } else { None }
 }
 
-// Reads the line from a place on: a key, given with its `=`, and the word behind it. Where the text ends before, it is not ok, and the word is 0.
-pub fn read_line(text: &[u8], place: usize, key: &[u8]) -> Field
+// Reads the word of the line from a place on: a key, given with its `=`, and the word behind it.
+#[tactic(auto, unfolding(crate::specs::Fields::has_key, crate::specs::Fields::line_at))]
+pub fn read_line(text: &[u8], place: usize, key: &[u8]) -> Option<u64>
     ensures { result ≡ line_at text.now place key.now }
 {
-    if !has_room(text.len(), place, key.len()) {
-        return Field { ok: false, word: 0 };
+    if !has_key(text, place, key) {
+        return None;
     }
-    let keyed = has_key(text, place, key);
-    let digits = read_word(text, place + key.len());
-    Field {
-        ok: keyed & digits.ok,
-        word: digits.word,
-    }
+    read_word(text, place + key.len())
 }

@@ -4,9 +4,10 @@ use mathlib.Core.Path.{◌≡◌, refl, sym, ap, ◌∙◌}
 use mathlib.Core.List.{List, [], ◌∷◌}
 use mathlib.Core.Logic.{◌⊎◌, inl, inr}
 use native.Mathlib.Omega.{arith}
-use lib.ListN.{length, get_or, take, drop}
-use lib.Seq.{drop-cons, take_all, length-take-le}
-use Rattle.map.specs.Ranges.{range}
+use lib.ListN.{length, get_or, take}
+use lib.Seq.{take_all, length-take-le, get_or-take}
+use Rattle.map.specs.declared.Range.{Range}
+use Rattle.map.specs.Ranges.{range, no_range}
 use Rattle.map.specs.Lookup.{ranges_in}
 use Rattle.map.proofs.Lawful.{less}
 use Rattle.map.specs.MapWords.{ranges_of_words, range_words, map_of_words, map_words}
@@ -24,14 +25,18 @@ pub map-words-back : (w : List ℕ) → length w ≡ 100 → map_words (map_of_w
 map-words-back [] h = absurd (omega arith)
 map-words-back (count ∷ w) h = ap (λ (l : List ℕ). count ∷ l) (ranges-back 33 w (omega arith))
 
--- the ranges from a word on
-pub ranges-at : (w : List ℕ) (at : ℕ) → at + 3 ≤ length w
-    → ranges_of_words (drop at w) ≡ range (get_or w at 0) (get_or w (at + 1) 0) (get_or w (at + 2) 0) ∷ ranges_of_words (drop (at + 3) w)
-ranges-at w at h =
-    let a : at + 1 ≡ suc at = omega arith in
-    let b : at + 2 ≡ suc (suc at) = omega arith in
-    let c : at + 3 ≡ suc (suc (suc at)) = omega arith in
-    rw (a, b, c, drop-cons w at 0 (omega arith), drop-cons w (suc at) 0 (omega arith), drop-cons w (suc (suc at)) 0 (omega arith))
+-- a range has the three words at its place
+words_at : (v : List ℕ) (k : ℕ) (d : Range) → 3 * k + 3 ≤ length v
+    → get_or (ranges_of_words v) k d ≡ range (get_or v (3 * k) 0) (get_or v (3 * k + 1) 0) (get_or v (3 * k + 2) 0)
+words_at [] k d h = absurd (omega arith)
+words_at (a ∷ []) k d h = absurd (omega arith)
+words_at (a ∷ b ∷ []) k d h = absurd (omega arith)
+words_at (a ∷ b ∷ c ∷ v) zero d h = refl
+words_at (a ∷ b ∷ c ∷ v) (suc k) d h =
+    let first : 3 * suc k ≡ suc (suc (suc (3 * k))) = omega arith in
+    let last : 3 * suc k + 1 ≡ suc (suc (suc (3 * k + 1))) = omega arith in
+    let owner : 3 * suc k + 2 ≡ suc (suc (suc (3 * k + 2))) = omega arith in
+    rw (owner, last, first) (words_at v k d (omega arith))
 
 -- ---- how many ranges some words have
 
@@ -52,33 +57,25 @@ length-take n l = go (less n (length l))
 ranges-count : (count : ℕ) (w : List ℕ) → length (ranges_in (map_of_words (count ∷ w))) ≡ min (min count 33) (length w / 3)
 ranges-count count w = length-take (min count 33) (ranges_of_words w) ∙ ap (min (min count 33)) (three_each w)
 
-pub ranges-number : (w : List ℕ) → 0 < length w → length (ranges_in (map_of_words w)) ≡ min (min (get_or w 0 0) 33) ((length w - 1) / 3)
-ranges-number [] h = absurd (omega arith)
-ranges-number (count ∷ w) h = let n : suc (length w) - 1 ≡ length w = omega arith in rw n (ranges-count count w)
+pub ranges_number : (w : List ℕ) → 0 < length w → length (ranges_in (map_of_words w)) ≡ min (min (get_or w 0 0) 33) ((length w - 1) / 3)
+ranges_number [] h = absurd (omega arith)
+ranges_number (count ∷ w) h = let n : suc (length w) - 1 ≡ length w = omega arith in rw n (ranges-count count w)
 
-pub no_ranges : (w : List ℕ) → length w ≡ 0 → 0 ≡ length (ranges_in (map_of_words w))
-no_ranges [] h = refl
-no_ranges (count ∷ w) h = absurd (omega arith)
+-- there are three words for each, behind the count
+pub ranges_room : (w : List ℕ) → 3 * length (ranges_in (map_of_words w)) ≤ length w - 1
+ranges_room [] = omega arith
+ranges_room (count ∷ w) = omega (arith, ranges-count count w)
 
--- they lie from the second word on
-pub ranges-from : (w : List ℕ) → ranges_in (map_of_words w) ≡ take (length (ranges_in (map_of_words w))) (ranges_of_words (drop 1 w))
-ranges-from [] = refl
-ranges-from (count ∷ w) = go (less (min count 33) (length (ranges_of_words w)))
-  where
-    go : (min count 33 < length (ranges_of_words w)) ⊎ (length (ranges_of_words w) ≤ min count 33)
-        → take (min count 33) (ranges_of_words w) ≡ take (length (take (min count 33) (ranges_of_words w))) (ranges_of_words w)
-    go (inl x) = rw (length-take-le (min count 33) (ranges_of_words w) (omega arith))
-    go (inr x) = rw (take_all (min count 33) (ranges_of_words w) x) (sym (take_all (length (ranges_of_words w)) (ranges_of_words w) (omega arith)))
-
-pub ranges-room : (w : List ℕ) → 3 * length (ranges_in (map_of_words w)) ≤ length w - 1
-ranges-room [] = omega arith
-ranges-room (count ∷ w) = omega (arith, ranges-count count w)
-
--- the first of them, and those behind it
-pub ranges_next : (w : List ℕ) (left at : ℕ) → 0 < left → at + 3 ≤ length w
-    → take left (ranges_of_words (drop at w))
-    ≡ range (get_or w at 0) (get_or w (at + 1) 0) (get_or w (at + 2) 0) ∷ take (left - 1) (ranges_of_words (drop (at + 3) w))
-ranges_next w zero at h l = absurd (omega arith)
-ranges_next w (suc left) at h l =
-    let n : suc left - 1 ≡ left = omega arith in
-    rw (n, ranges-at w at l)
+-- the first of them lies behind the count
+pub range_at : (w : List ℕ) (k : ℕ) → k < length (ranges_in (map_of_words w))
+    → get_or (ranges_in (map_of_words w)) k no_range ≡ range (get_or w (3 * k + 1) 0) (get_or w (3 * k + 2) 0) (get_or w (3 * k + 3) 0)
+range_at [] k h = absurd (omega arith)
+range_at (count ∷ v) k h =
+    let n = min count 33 in
+    let room = ranges_room (count ∷ v) in
+    let first : 3 * k + 1 ≡ suc (3 * k) = omega arith in
+    let last : 3 * k + 2 ≡ suc (3 * k + 1) = omega arith in
+    let owner : 3 * k + 3 ≡ suc (3 * k + 2) = omega arith in
+    get_or-take n (ranges_of_words v) k no_range (omega (arith, length-take n (ranges_of_words v)))
+    ∙ words_at v k no_range (omega arith)
+    ∙ (λ j. range (get_or (count ∷ v) (sym first j) 0) (get_or (count ∷ v) (sym last j) 0) (get_or (count ∷ v) (sym owner j) 0))

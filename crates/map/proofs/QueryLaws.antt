@@ -1,19 +1,20 @@
 -- A query on the compiled map answers as the byte rule does, with the same entry, and on a lawful map one range tells a grant from a fault. Assumes nothing.
-use Prim.Native.Nat.{ℕ, suc, ◌+◌, ◌≤◌, ◌<◌}
+use Prim.Native.Nat.{ℕ, suc, ◌+◌, ◌-◌, ◌≤◌, ◌<◌}
 use mathlib.Core.Path.{◌≡◌, sym, ap, subst, ◌∙◌}
 use mathlib.Core.Bool.{true, false, cond}
 use mathlib.Core.List.{List}
 use mathlib.Core.Logic.{◌⊎◌, inl, inr}
 use mathlib.Core.Option.{Option, some}
 use native.Mathlib.Omega.{arith}
-use lib.Dec.{ltb}
-use borrow.Author.Tests.{le-ltb}
+use lib.Dec.{leb, ltb}
+use borrow.Author.Tests.{le-ltb, le-leb, lt-leb}
 use Rattle.bits.proofs.Conjunction.{contradiction, not-true-false}
 use Rattle.pmp.specs.declared.Mode.{Mode}
 use Rattle.pmp.specs.declared.Access.{Access}
 use Rattle.pmp.specs.declared.Span.{Span}
 use Rattle.pmp.specs.declared.Decision.{Decision}
 use Rattle.pmp.specs.declared.Decision.TheVariants.{Fault, Refused}
+use Rattle.pmp.specs.declared.Refusal.{Refusal}
 use Rattle.pmp.specs.Number.{fault_cause}
 use Rattle.pmp.specs.Search.{every_byte}
 use Rattle.pmp.specs.Entry.{top, entry_span}
@@ -32,14 +33,22 @@ use Rattle.map.proofs.LookupLaws.{holds_in, holds-behind, hit, owner-read}
 use Rattle.map.proofs.MapLaws.{compiled_is_map}
 
 module _ (address size : ℕ) where
-  pub inside_readable : is_size size ≡ true → address + size ≤ top → readable address size ≡ true
+  inside_readable : is_size size ≡ true → address + size ≤ top → readable address size ≡ true
   inside_readable e h = rw (e, none-beyond top size address h)
 
-  pub beyond_unreadable : is_size size ≡ true → top < address + size → readable address size ≡ false
+  beyond_unreadable : is_size size ≡ true → top < address + size → readable address size ≡ false
   beyond_unreadable e h = rw (e, some-beyond top size address (size_bounds size e).0 h)
 
-  pub size_unreadable : is_size size ≡ false → readable address size ≡ false
+  size_unreadable : is_size size ≡ false → readable address size ≡ false
   size_unreadable e = rw e
+
+  -- what is left of memory from the address on tells
+  pub readable_room : is_size size ≡ true → readable address size ≡ leb address (top - size)
+  readable_room e = go (less top (address + size))
+    where
+      go : (top < address + size) ⊎ (address + size ≤ top) → readable address size ≡ leb address (top - size)
+      go (inl x) = beyond_unreadable e x ∙ sym (lt-leb address (top - size) (omega (arith, size_bounds size e)))
+      go (inr x) = inside_readable e x ∙ sym (le-leb address (top - size) (omega (arith, size_bounds size e)))
 
 module _ (cfgs : List ℕ) (mode : Mode) (access : Access) (address size : ℕ) where
   -- a map's ranges are read once the size is right and all bytes lie in memory
@@ -48,7 +57,7 @@ module _ (cfgs : List ℕ) (mode : Mode) (access : Access) (address size : ℕ) 
   unfolding queried
   reads-ranges map e h = rw (inside_readable address size e h)
 
-  pub query-refused : (map : Map) → is_size size ≡ false → queried cfgs map mode access address size ≡ Refused 1
+  pub query-refused : (map : Map) → is_size size ≡ false → queried cfgs map mode access address size ≡ Refused Refusal.Size
   unfolding queried
   query-refused map e = rw (size_unreadable address size e, e)
 

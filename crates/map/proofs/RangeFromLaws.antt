@@ -44,6 +44,8 @@ module _ (spans : ℕ → Span) (at i end : ℕ) where
   unfolding range_from
   from_end e = rw e
 
+pub ruleset from_cases = (from-later, from-owner, from_past, from_end)
+
 -- ---- the range from a byte on is a run
 
 module _ (spans : ℕ → Span) (at : ℕ) (known : Normalized spans) where

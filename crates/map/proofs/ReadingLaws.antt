@@ -10,10 +10,10 @@ use native.Mathlib.Nat.{mod-eq_of_lt}
 use native.Mathlib.Numerals.{add-one}
 use lib.Bits.{bit_and, and_zero_l, and_zero_r, and_le_l, and_mask}
 use lib.Dec.{ltb, eqb}
-use lib.ListN.{length, get_or, take, drop}
+use lib.ListN.{length, get_or, drop, drop_of_length-le}
 use lib.Pow.{pow_mono, pow_pos}
-use lib.Seq.{drop-cons, get_or-take, length-take-le}
-use borrow.Author.Tests.{not-false, eqb-true, ltb-true, ltb-false, lt-ltb, le-ltb, ne_eqb, eq-eqb, eqb-false}
+use lib.Seq.{drop-cons}
+use borrow.Author.Tests.{eqb-true, ltb-true, ltb-false, lt-ltb, le-ltb, ne_eqb, eq-eqb, eqb-false}
 use Rattle.bits.specs.Mask.{test_bit, cleared}
 use Rattle.bits.specs.Fold.{fold}
 use Rattle.bits.proofs.Conjunction.{both, by_test, one_of, neither, contradiction}
@@ -22,6 +22,7 @@ use Rattle.bits.proofs.FoldLaws.{fold_nil, fold_cons, fold-keeps}
 use Rattle.pmp.specs.declared.Mode.{Mode}
 use Rattle.pmp.specs.declared.Access.{Access}
 use Rattle.pmp.specs.declared.Decision.TheVariants.{Fault, Refused}
+use Rattle.pmp.specs.declared.Refusal.{Refusal}
 use Rattle.pmp.specs.Number.{fault_cause}
 use Rattle.pmp.specs.Search.{any_byte}
 use Rattle.pmp.specs.Rule.{owner_decides, lowest_owner, owners_decide, is_size}
@@ -29,10 +30,10 @@ use Rattle.pmp.proofs.RuleLaws.{size_bounds}
 use Rattle.pmp.proofs.SearchLaws.{any_none, any_some, least_unique}
 use Rattle.pmp.proofs.Owner.{one_decides, two_decide}
 use Rattle.map.specs.declared.Range.{Range}
-use Rattle.map.specs.declared.Map.{Map}
 use Rattle.map.specs.declared.Reading.{Reading}
-use Rattle.map.specs.Lookup.{holds_byte, find_range, ranges_in, owner_found}
-use Rattle.map.specs.Query.{ranges_decide, readable, unread_decides, queried}
+use Rattle.map.specs.Ranges.{no_range}
+use Rattle.map.specs.Lookup.{holds_byte, find_range, owner_found}
+use Rattle.map.specs.Query.{ranges_decide, readable, ranges_queried}
 use Rattle.map.specs.Reading.{first_bytes, bytes_held, unread, read_range, read_ranges, reading_decides}
 use Rattle.map.proofs.Lawful.{less}
 use Rattle.map.proofs.LookupLaws.{holds_in, holds-before, holds-behind}
@@ -56,8 +57,8 @@ first-bytes_test n j h = test_ones (min n 8) j ∙ go (less j n)
     go (inr x) = le-ltb j (min n 8) (omega arith) ∙ sym (le-ltb j n x)
 
 -- a range that begins no later than the access has no byte before it
-pub none-cleared : (n m : ℕ) → n ≡ 0 → cleared (first_bytes n) (first_bytes m) ≡ first_bytes m
-none-cleared n m e = rw e (and_mask (first_bytes m) 64 ∙ mod-eq_of_lt (omega (arith, first-bytes-below m)))
+pub none_cleared : (n m : ℕ) → n ≡ 0 → cleared (first_bytes n) (first_bytes m) ≡ first_bytes m
+none_cleared n m e = rw e (and_mask (first_bytes m) 64 ∙ mod-eq_of_lt (omega (arith, first-bytes-below m)))
 
 pub held_test : (address : ℕ) (r : Range) (j : ℕ) → j < 8 → test_bit (bytes_held address r) j ≡ holds_byte r (address + j)
 unfolding bytes_held
@@ -319,22 +320,19 @@ rest-unread address reading (r ∷ rs) e =
     ∙ ap (λ (x : Reading). fold (read_range address) x rs) (read_done address reading r e)
     ∙ rest-unread address reading rs e
 
--- ---- the loops over a map's ranges and over its words
+-- ---- the loop over the ranges
 
--- the next range of a map
-pub pass_next : (n k : ℕ) (rs : List Range) (d : Range) (address : ℕ) (reading : Reading) → k < n → n ≤ length rs
-    → fold (read_range address) reading (drop k (take n rs))
-    ≡ fold (read_range address) (read_range address reading (get_or rs k d)) (drop (k + 1) (take n rs))
-pass_next n k rs d address reading h l =
-    let i : k < length (take n rs) = omega (arith, length-take-le n rs l) in
-    rw (drop-cons (take n rs) k d i, get_or-take n rs k d h, add-one)
-    (fold_cons (read_range address) reading (get_or rs k d) (drop (suc k) (take n rs)))
+-- the next range
+pub pass_next : (rs : List Range) (k address : ℕ) (reading : Reading) → k < length rs
+    → fold (read_range address) reading (drop k rs) ≡ fold (read_range address) (read_range address reading (get_or rs k no_range)) (drop (k + 1) rs)
+pass_next rs k address reading h =
+    rw (drop-cons rs k no_range h, add-one) (fold_cons (read_range address) reading (get_or rs k no_range) (drop (suc k) rs))
 
--- a loop ends where no range is left or no byte is unread
-pub pass_end : (address : ℕ) (reading : Reading) (rs : List Range) (more : Bool) → (more ≡ false → rs ≡ []) → (more && not (eqb reading.unread 0)) ≡ false
-    → fold (read_range address) reading rs ≡ reading
-pass_end address reading rs false none_left t = rw (none_left refl) (fold_nil (read_range address) reading)
-pass_end address reading rs true none_left t = rest-unread address reading rs (eqb-true reading.unread 0 (not-false (eqb reading.unread 0) t))
+-- no range is left
+pub pass_end : (rs : List Range) (k address : ℕ) (reading : Reading) → length rs ≤ k → fold (read_range address) reading (drop k rs) ≡ reading
+pass_end rs k address reading h = rw (drop_of_length-le rs h) (fold_nil (read_range address) reading)
+
+pub ruleset pass_cases = (pass_next, pass_end, read_behind, rest-unread)
 
 -- ---- what was read decides as the owners do that are read byte by byte
 
@@ -413,8 +411,8 @@ module _ (cfgs : List ℕ) (mode : Mode) (access : Access) (address size : ℕ) 
   reading_decides_lem p = go (ltb 0 reading.unread || ltb 16 reading.high) refl
     where
       go : (t : Bool) → (ltb 0 reading.unread || ltb 16 reading.high) ≡ t
-          → cond t (Refused 7) (cond (eqb reading.low reading.high) (owner_decides cfgs mode access reading.low) (Fault (fault_cause access) reading.low))
-          ≡ cond (any_byte (λ b. ltb 16 (owner b)) size address) (Refused 7) (owners_decide cfgs mode access owner address size)
+          → cond t (Refused Refusal.Map) (cond (eqb reading.low reading.high) (owner_decides cfgs mode access reading.low) (Fault (fault_cause access) reading.low))
+          ≡ cond (any_byte (λ b. ltb 16 (owner b)) size address) (Refused Refusal.Map) (owners_decide cfgs mode access owner address size)
       go true e = rw (refusing e)
       go false e =
           let n = neither _ _ e in
@@ -424,17 +422,12 @@ module _ (cfgs : List ℕ) (mode : Mode) (access : Access) (address size : ℕ) 
           (λ b l h. le-ltb 16 (owner b) (omega (arith, owner-between done known p b l h))))
           (owners_decide_lem done known p)
 
--- a query is what is read of the map's ranges in one pass, where the map is read
-module _ (cfgs : List ℕ) (map : Map) (mode : Mode) (access : Access) (address size : ℕ) where
-  pub read-queried : readable address size ≡ true
-      → reading_decides cfgs mode access (read_ranges address size (ranges_in map)) ≡ queried cfgs map mode access address size
-  unfolding queried
-  read-queried e =
+-- a query is what is read of the ranges in one pass, where they are read
+module _ (cfgs : List ℕ) (ranges : List Range) (mode : Mode) (access : Access) (address size : ℕ) where
+  pub reading_queried : readable address size ≡ true
+      → reading_decides cfgs mode access (read_ranges address size ranges) ≡ ranges_queried cfgs ranges mode access address size
+  reading_queried e =
       let b = size_bounds size (both (is_size size) _ e).0 in
       rw e
-      (reading_decides_lem cfgs mode access address size b.1 (find_range (ranges_in map)) (read_ranges address size (ranges_in map))
-      (reads address size b.1 (ranges_in map)) b.0)
-
-  pub unread-queried : readable address size ≡ false → unread_decides access size ≡ queried cfgs map mode access address size
-  unfolding queried
-  unread-queried e = rw e
+      (reading_decides_lem cfgs mode access address size b.1 (find_range ranges) (read_ranges address size ranges)
+      (reads address size b.1 ranges) b.0)

@@ -7,7 +7,7 @@ use mathlib.Core.Logic.{◌⊎◌, inl, inr, ⊎_elim}
 use native.Mathlib.Omega.{arith}
 use native.Mathlib.Numerals.{add-one}
 use lib.ListN.{length, set, replicate, length-append}
-use lib.Seq.{append_snoc, set_at, get_or-set_same, get_or-set_other}
+use lib.Seq.{append_snoc, set_at}
 use Rattle.pmp.specs.declared.Span.{Span}
 use Rattle.pmp.specs.Entry.{top, span}
 use Rattle.pmp.specs.Rule.{owner_of}
@@ -98,7 +98,7 @@ module _ (spans : ℕ → Span) (known : Normalized spans) where
             m ∙ ap map_of (sym (w ∙ append-nil s.done))
         go (t ∷ ts) l w = absurd (omega (arith, l.0.some, from-bound (owner_of spans) t.owner (suc t.last) ts l.1))
 
--- ---- the arrays of the entries' first bytes and ends
+-- ---- the array of the entries' bytes
 
 module _ (s t : Span) (e : t ≡ normalized s) where
   normalized_cases : (t ≡ s × s.low < s.high) ⊎ (t ≡ span 0 0)
@@ -117,28 +117,16 @@ module _ (s t : Span) (e : t ≡ normalized s) where
   normalized-below h = ⊎_elim (λ w. rw w.0 h) (λ w. rw w (omega arith)) normalized_cases
 
 -- they hold the bytes of the entries below i
-abbrev pub Filled : (ℕ → Span) → List ℕ → List ℕ → ℕ → Type 0
-Filled spans lows highs i = (k : ℕ) → k < i → spans_in lows highs k ≡ normalized (spans k)
+abbrev pub Filled : (ℕ → Span) → List Span → ℕ → Type 0
+Filled spans held i = (k : ℕ) → k < i → spans_in held k ≡ normalized (spans k)
 
-module _ (spans : ℕ → Span) (lows highs : List ℕ) where
-  pub filled_next : (i : ℕ) (s t : Span) → length lows ≡ 16 → length highs ≡ 16 → i < 16 → Filled spans lows highs i
-      → s ≡ spans i → t ≡ normalized s → Filled spans (set lows i t.low) (set highs i t.high) (i + 1)
-  filled_next i s t m n h f e d k l = go (less k i)
-    where
-      go : (k < i) ⊎ (i ≤ k) → spans_in (set lows i t.low) (set highs i t.high) k ≡ normalized (spans k)
-      go (inl x) =
-          let other : k ≡ i → ⊥ = λ q. omega arith in
-          rw (get_or-set_other lows i k t.low 0 other, get_or-set_other highs i k t.high 0 other) (f k x)
-      go (inr x) =
-          let q : k ≡ i = omega arith in
-          rw (q, get_or-set_same lows i t.low 0 (omega arith), get_or-set_same highs i t.high 0 (omega arith)) (d ∙ ap normalized e)
-
-  pub filled_normalized : ((k : ℕ) → k < 16 → (spans k).high ≤ top) → Filled spans lows highs 16 → Normalized (spans_in lows highs)
+module _ (spans : ℕ → Span) (held : List Span) where
+  pub filled_normalized : ((k : ℕ) → k < 16 → (spans k).high ≤ top) → Filled spans held 16 → Normalized (spans_in held)
   filled_normalized bounded f = record {
-    some = λ k h l. normalized-some (spans k) (spans_in lows highs k) (f k h) l;
-    below = λ k h. normalized-below (spans k) (spans_in lows highs k) (f k h) (bounded k h);
+    some = λ k h l. normalized-some (spans k) (spans_in held k) (f k h) l;
+    below = λ k h. normalized-below (spans k) (spans_in held k) (f k h) (bounded k h);
   }
 
-  pub filled_compiled : Filled spans lows highs 16 → map_of (painted (spans_in lows highs) 16) ≡ map_of (ranges_of spans)
+  pub filled_compiled : Filled spans held 16 → map_of (painted (spans_in held) 16) ≡ map_of (ranges_of spans)
   unfolding ranges_of
-  filled_compiled f = ap map_of (sym (painted_same spans (spans_in lows highs) f 16 (omega arith)))
+  filled_compiled f = ap map_of (sym (painted_same spans (spans_in held) f 16 (omega arith)))

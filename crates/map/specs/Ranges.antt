@@ -9,6 +9,10 @@ use Rattle.map.specs.declared.Range.{Range}
 abbrev pub range : ℕ → ℕ → ℕ → Range
 range first last owner = record { first = first; last = last; owner = owner }
 
+-- what is read past the last range
+abbrev pub no_range : Range
+no_range = range 0 0 0
+
 -- each byte of a range has its owner
 abbrev pub Owned : (ℕ → ℕ) → List Range → Type 0
 Owned owner [] = Unit {0}

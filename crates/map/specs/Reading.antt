@@ -8,6 +8,7 @@ use Rattle.pmp.specs.declared.Mode.{Mode}
 use Rattle.pmp.specs.declared.Access.{Access}
 use Rattle.pmp.specs.declared.Decision.{Decision}
 use Rattle.pmp.specs.declared.Decision.TheVariants.{Fault, Refused}
+use Rattle.pmp.specs.declared.Refusal.{Refusal}
 use Rattle.pmp.specs.Number.{fault_cause}
 use Rattle.pmp.specs.Rule.{none, owner_decides}
 use Rattle.map.specs.declared.Range.{Range}
@@ -42,5 +43,5 @@ read_ranges address size ranges = fold (read_range address) (unread size) ranges
 unfoldable pub reading_decides : List ℕ → Mode → Access → Reading → Decision
 reading_decides cfgs mode access reading =
     cond (ltb 0 reading.unread || ltb none reading.high)
-    (Refused 7)
+    (Refused Refusal.Map)
     (cond (eqb reading.low reading.high) (owner_decides cfgs mode access reading.low) (Fault (fault_cause access) reading.low))

@@ -14,9 +14,9 @@ pub record Normalized (spans : ℕ → Span) : Type 0 where
   pub some : (i : ℕ) → i < entries → 0 < (spans i).low → (spans i).low < (spans i).high
   pub below : (i : ℕ) → i < entries → (spans i).high ≤ top
 
--- the entries' bytes, from the arrays of their first bytes and of their ends
-abbrev pub spans_in : List ℕ → List ℕ → ℕ → Span
-spans_in lows highs i = record { low = get_or lows i 0; high = get_or highs i 0 }
+-- the entries' bytes, from an array of them
+abbrev pub spans_in : List Span → ℕ → Span
+spans_in spans i = get_or spans i (record { low = 0; high = 0 })
 
 -- the range from byte `at` on by the n entries from i on, where those below i leave it the bytes up to `end`:
 -- the first to match the byte owns it, up to its end or to where an entry before it starts

@@ -3,6 +3,7 @@
 
 mod pass;
 mod queries;
+mod ranges;
 
 ghost use Rattle.std.specs.Prelude.{◌≡◌, min};
 ghost use Rattle.pmp.specs.Entry.{top, entries, entry_span};
@@ -11,7 +12,7 @@ ghost use Rattle.map.specs.Compiled.{map_of, compiled};
 ghost use Rattle.map.specs.Boundaries.{Boundaries};
 ghost use Rattle.map.specs.Sweep.{normalized, Normalized, spans_in, range_from};
 
-use pmp::TOP;
+use pmp::{Span, TOP};
 pub use queries::{query, query_words};
 
 // The bytes from `first` to `last`, both included. The owner is an entry, 0 to 15, or 16 for none; any number can be given.
@@ -22,7 +23,7 @@ pub struct Range {
     pub owner: u64,
 }
 
-// The first `count` ranges are the map; a count above 33 is read as 33.
+// The first `count` ranges are the map; a count above 33 is read as 33. The count stands beside its array since 01 and the C interface name both.
 #[derive(Clone, Copy)]
 pub struct Map {
     pub count: u64,
@@ -38,44 +39,33 @@ pub(crate) struct Reading {
     high: u64,
 }
 
-pub(crate) fn smaller(a: u64, b: u64) -> u64
-    ensures { result ≡ min a b }
-{
-    if a < b { a } else { b }
-}
-
 // An entry that matches no byte starts nowhere: 0 up to 0 stands for it.
-fn normalize(span: pmp::Span) -> pmp::Span
+fn normalize(span: Span) -> Span
     ensures { result ≡ normalized span }
 {
     if span.low < span.high {
         span
     } else {
-        pmp::Span { low: 0, high: 0 }
+        Span { low: 0, high: 0 }
     }
 }
 
 // The range from byte `at` on: it ends with its owner's bytes, or before the bytes of a lower entry.
-fn range_from(lows: &[u64; 16], highs: &[u64; 16], at: u64) -> Range
-    ensures { result ≡ range_from (spans_in lows.now highs.now) at entries 0 top }
+#[tactic(auto, using(crate::proofs::RangeFromLaws::from_cases))]
+fn range_from(spans: &[Span; 16], at: u64) -> Range
+    ensures { result ≡ range_from (spans_in spans.now) at entries 0 top }
 {
     let mut end = TOP;
-    let mut entry = 0;
-    while entry < 16 {
-        let low = lows[entry];
-        if at < low {
-            end = smaller(end, low);
-            entry += 1;
-        } else {
-            let high = highs[entry];
-            if at < high {
-                return Range {
-                    first: at,
-                    last: smaller(end, high) - 1,
-                    owner: entry as u64,
-                };
-            }
-            entry += 1;
+    for entry in 0..16 {
+        let span = spans[entry];
+        if at < span.low {
+            end = end.min(span.low);
+        } else if at < span.high {
+            return Range {
+                first: at,
+                last: end.min(span.high) - 1,
+                owner: entry as u64,
+            };
         }
     }
     Range {
@@ -87,9 +77,9 @@ fn range_from(lows: &[u64; 16], highs: &[u64; 16], at: u64) -> Range
 
 // The map of sixteen entries, range by range from the lowest byte up. Two neighbours never have one owner, since each range ends where the owner
 // changes. No test keeps a 34th range out: sixteen entries make at most 33.
-fn sweep(lows: &[u64; 16], highs: &[u64; 16]) -> Map
-    requires { Normalized (spans_in lows.now highs.now) }
-    ensures { result ≡ map_of (painted (spans_in lows.now highs.now) entries) }
+fn sweep(spans: &[Span; 16]) -> Map
+    requires { Normalized (spans_in spans.now) }
+    ensures { result ≡ map_of (painted (spans_in spans.now) entries) }
 {
     let mut ranges = [Range {
         first: 0,
@@ -98,8 +88,9 @@ fn sweep(lows: &[u64; 16], highs: &[u64; 16]) -> Map
     }; 33];
     let mut count: usize = 0;
     let mut at = 0;
+    // The bytes are gone over, and not the places of the array: a range says where the next one begins.
     while at < TOP {
-        let range = range_from(lows, highs, at);
+        let range = range_from(spans, at);
         ranges[count] = range;
         count += 1;
         at = range.last + 1;
@@ -115,24 +106,18 @@ pub fn compile(grain: u64, cfgs: [u8; 16], addrs: [u64; 16]) -> Map
     ensures value { result ≡ compiled grain cfgs addrs }
     ensures boundaries { Boundaries (entry_span grain cfgs addrs) result }
 {
-    let mut lows = [0u64; 16];
-    let mut highs = [0u64; 16];
+    let mut spans = [Span { low: 0, high: 0 }; 16];
     let mut before = 0;
-    let mut entry: usize = 0;
-    while entry < 16 {
-        let addr = addrs[entry];
-        let span = normalize(pmp::entry_span(grain, cfgs[entry], addr, before));
-        lows[entry] = span.low;
-        highs[entry] = span.high;
-        before = addr;
-        entry += 1;
+    for (entry, addr) in addrs.iter().enumerate() {
+        spans[entry] = normalize(pmp::entry_span(grain, cfgs[entry], *addr, before));
+        before = *addr;
     }
-    sweep(&lows, &highs)
+    sweep(&spans)
 }
 
 // The number of ranges by which a map is read: a count above 33 is read as 33.
 pub fn count_read(count: u64) -> usize
     ensures { result ≡ min count 33 }
 {
-    if count < 33 { count as usize } else { 33 }
+    count.min(33) as usize
 }

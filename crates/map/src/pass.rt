@@ -1,31 +1,25 @@
 // The owners of an access's bytes, range by range. A byte is a bit: the access's first byte is bit 0, and there are at most eight.
-ghost use Rattle.std.specs.Prelude.{◌≡◌, max};
+ghost use Rattle.std.specs.Prelude.{◌≡◌};
 ghost use Rattle.map.specs.Reading.{first_bytes, bytes_held, unread, read_range};
 
-use crate::{Range, Reading, smaller};
-
-fn larger(a: u64, b: u64) -> u64
-    ensures { result ≡ max a b }
-{
-    if a < b { b } else { a }
-}
+use crate::{Range, Reading};
 
 // The first `count` bytes, of eight.
 fn first_bytes(count: u64) -> u64
     ensures { result ≡ first_bytes count }
 {
-    let bits = smaller(count, 8);
-    (1u64 << bits) - 1
+    (1u64 << count.min(8)) - 1
 }
 
 // The bytes of an access from `address` on that a range holds.
+#[tactic(auto, unfolding(crate::specs::Reading::bytes_held), using(crate::proofs::ReadingLaws::none_cleared))]
 fn bytes_held(address: u64, range: Range) -> u64
     ensures { result ≡ bytes_held address range }
 {
     if range.last < address {
         return 0;
     }
-    let up_to_last = first_bytes(smaller(range.last - address, 7) + 1);
+    let up_to_last = first_bytes((range.last - address).min(7) + 1);
     if range.first < address {
         up_to_last
     } else {
@@ -45,6 +39,7 @@ pub(crate) fn start(size: u64) -> Reading
 }
 
 // The next range is read for those bytes that it holds and no range before it does.
+#[tactic(auto, unfolding(crate::specs::Reading::read_range))]
 pub(crate) fn read_range(address: u64, reading: Reading, range: Range) -> Reading
     ensures { result ≡ read_range address reading range }
 {
@@ -54,7 +49,7 @@ pub(crate) fn read_range(address: u64, reading: Reading, range: Range) -> Readin
     }
     Reading {
         unread: reading.unread & !held,
-        low: smaller(reading.low, range.owner),
-        high: larger(reading.high, range.owner),
+        low: reading.low.min(range.owner),
+        high: reading.high.max(range.owner),
     }
 }

@@ -1,65 +1,28 @@
 // Access queries, on a map and on a map's words.
-ghost use Rattle.std.specs.Prelude.{◌≡◌, ◌≤◌, length};
-ghost use Rattle.map.specs.Lookup.{ranges_in};
-ghost use Rattle.map.specs.Query.{readable, unread_decides, queried};
+ghost use Rattle.std.specs.Prelude.{◌≡◌, ◌≤◌};
+ghost use Rattle.map.specs.Query.{readable, unread_decides, ranges_queried, queried};
 ghost use Rattle.map.specs.MapWords.{map_of_words};
 ghost use Rattle.map.specs.Reading.{read_ranges, reading_decides};
 
 use crate::pass::{read_range, start};
-use crate::{Map, Range, Reading, count_read};
-use pmp::{Access, Decision, Mode};
+use crate::ranges::{Ranges, Words};
+use crate::{Map, Reading};
+use pmp::{Access, Decision, Mode, Refusal};
 
 // The owners of an access's bytes, each that of the lowest-numbered range that holds the byte.
-fn read_map(map: Map, address: u64, size: u64) -> Reading
-    ensures { result ≡ read_ranges address size (ranges_in map) }
+#[tactic(auto, using(crate::proofs::ReadingLaws::pass_cases))]
+fn read<R: Ranges>(ranges: &R, address: u64, size: u64) -> Reading
+    ensures { result ≡ read_ranges address size (R.ranges ranges.now) }
 {
-    let n = count_read(map.count);
     let mut reading = start(size);
-    let mut k: usize = 0;
-    while (k < n) & (reading.unread != 0) {
-        reading = read_range(address, reading, map.ranges[k]);
-        k += 1;
-    }
-    reading
-}
-
-// The number of ranges by which a map's words are read: no more than there are whole ones.
-fn ranges_in(map: &[u64]) -> usize
-    ensures { result ≡ length (ranges_in (map_of_words map.now)) }
-{
-    if map.len() == 0 {
-        return 0;
-    }
-    let counted = count_read(map[0]);
-    let whole = (map.len() - 1) / 3;
-    if counted < whole { counted } else { whole }
-}
-
-// The owners by a map's words, read as they lie: a map by value would be copied first.
-fn read_words(map: &[u64], address: u64, size: u64) -> Reading
-    ensures { result ≡ read_ranges address size (ranges_in (map_of_words map.now)) }
-{
-    let mut left = ranges_in(map);
-    let mut reading = start(size);
-    let mut at: usize = 1;
-    while 0 < left {
-        let last = map[at + 1];
+    for number in 0..ranges.count() {
+        let range = ranges.range(number);
         // Most ranges end before the access, and this test alone passes them over.
-        if last < address {
-            left -= 1;
-            at += 3;
-        } else {
-            let range = Range {
-                first: map[at],
-                last,
-                owner: map[at + 2],
-            };
+        if address <= range.last {
             reading = read_range(address, reading, range);
             if reading.unread == 0 {
                 return reading;
             }
-            left -= 1;
-            at += 3;
         }
     }
     reading
@@ -67,12 +30,13 @@ fn read_words(map: &[u64], address: u64, size: u64) -> Reading
 
 // What the owners that were read decide: the lowest, which must be every byte's, or refusal 7 where one is missing or no owner. The lowest is known to be
 // at most none, so that it is a byte.
+#[tactic(auto, unfolding(crate::specs::Reading::reading_decides))]
 fn reading_decides(cfgs: [u8; 16], mode: Mode, access: Access, reading: Reading) -> Decision
     requires { reading.low ≤ 16 }
     ensures { result ≡ reading_decides cfgs mode access reading }
 {
     if (0 < reading.unread) | (16 < reading.high) {
-        return Decision::Refused(7);
+        return Decision::Refused(Refusal::Map);
     }
     if reading.low == reading.high {
         pmp::owner_decides(cfgs, mode, access, reading.low)
@@ -83,6 +47,7 @@ fn reading_decides(cfgs: [u8; 16], mode: Mode, access: Access, reading: Reading)
 }
 
 // Whether the map is read: the size is right, and all bytes lie in memory.
+#[tactic(auto, using(crate::proofs::QueryLaws::readable_room))]
 fn is_readable(address: u64, size: u64) -> bool
     ensures { result ≡ readable address size }
 {
@@ -96,12 +61,31 @@ fn unread_decides(access: Access, size: u64) -> Decision
     if pmp::is_size(size) {
         Decision::Fault(pmp::fault_cause(access), pmp::NONE)
     } else {
-        Decision::Refused(1)
+        Decision::Refused(Refusal::Size)
     }
 }
 
-// An access query: for each byte the lowest-numbered range that holds it is read, and the lowest owner read decides, by the configuration bytes and with no
-// look at an address register.
+// For each byte the lowest-numbered range that holds it is read, and the lowest owner read decides, by the configuration bytes and with no look at an address
+// register.
+#[tactic(auto, using(crate::proofs::ReadingLaws::low_bound, crate::proofs::ReadingLaws::reading_queried))]
+fn decide<R: Ranges>(
+    cfgs: [u8; 16],
+    ranges: &R,
+    mode: Mode,
+    access: Access,
+    address: u64,
+    size: u64,
+) -> Decision
+    ensures { result ≡ ranges_queried cfgs (R.ranges ranges.now) mode access address size }
+{
+    if !is_readable(address, size) {
+        return unread_decides(access, size);
+    }
+    reading_decides(cfgs, mode, access, read(ranges, address, size))
+}
+
+// An access query on a map.
+#[tactic(auto, unfolding(crate::specs::Query::queried))]
 pub fn query(
     cfgs: [u8; 16],
     map: Map,
@@ -112,13 +96,11 @@ pub fn query(
 ) -> Decision
     ensures { result ≡ queried cfgs map mode access address size }
 {
-    if !is_readable(address, size) {
-        return unread_decides(access, size);
-    }
-    reading_decides(cfgs, mode, access, read_map(map, address, size))
+    decide(cfgs, &map, mode, access, address, size)
 }
 
 // The same on the map of some words, of any number.
+#[tactic(auto, unfolding(crate::specs::Query::queried))]
 pub fn query_words(
     cfgs: [u8; 16],
     map: &[u64],
@@ -129,8 +111,5 @@ pub fn query_words(
 ) -> Decision
     ensures { result ≡ queried cfgs (map_of_words map.now) mode access address size }
 {
-    if !is_readable(address, size) {
-        return unread_decides(access, size);
-    }
-    reading_decides(cfgs, mode, access, read_words(map, address, size))
+    decide(cfgs, &Words { words: map }, mode, access, address, size)
 }

@@ -10,11 +10,13 @@ use lib.Dec.{leb}
 use lib.ListN.{length, get_or, take, drop, length-replicate}
 use lib.Seq.{take-append_seam}
 use Rattle.bits.specs.Lists.{Words}
-use Rattle.bits.proofs.Conjunction.{both, contradiction}
+use Rattle.bits.proofs.Conjunction.{both}
 use Rattle.lines.specs.Lines.{bytes_of, lines_of, places_of, words_in, is_text}
 use Rattle.lines.proofs.Back.{text-only, words_found, words_back, is_text_lem}
 use Rattle.lines.proofs.Reading.{lines-length}
-use Rattle.memory_text.specs.MemoryText.{keys, text_of, word_count, most_words, is_memory_text, base_in, memory_in, is_taken, read_as, no_memory, read_memory, stored_in}
+use Rattle.std.specs.Prelude.{Some, None}
+use Rattle.memory_text.specs.declared.Reading.{Reading}
+use Rattle.memory_text.specs.MemoryText.{keys, text_of, word_count, most_words, is_memory_text, base_in, memory_in, is_taken, read_as, read_memory, stored_in}
 use Rattle.memory_text.specs.RoundTrip.{IsMemory, RoundTrip}
 use Rattle.memory_text.proofs.Form.{keys_length, text_sized, memory-length}
 
@@ -72,14 +74,17 @@ pub round_trip : RoundTrip
 round_trip = record { memory-back = memory-back; text-back = λ t e. (is_memory t e, text_again t e); one_text = one_text }
 
 -- ---- a text that is taken: its memory is what the reading and the front of the slice say
-pub read_back_lem : (t s : List ℕ) → let r = read_memory t (length s) in r.ok ≡ true
+pub read_back_lem : (t s : List ℕ) (r : Reading) → read_memory t (length s) ≡ Some r
     → (is_memory_text t ≡ true) × (r.base ≡ base_in t) × (take r.count (stored_in t s) ≡ memory_in t)
 unfolding is_taken read_memory stored_in
-read_back_lem t s e = go (is_taken t (length s)) refl e
+read_back_lem t s r e = go (is_taken t (length s)) refl e
   where
-    go : (b : Bool) → is_taken t (length s) ≡ b → (cond b (read_as (base_in t) (word_count t)) no_memory).ok ≡ true →
-        let r = cond b (read_as (base_in t) (word_count t)) no_memory in
-        (is_memory_text t ≡ true) × (r.base ≡ base_in t) × (take r.count (cond b (memory_in t ++ drop (word_count t) s) s) ≡ memory_in t)
+    go : (b : Bool) → is_taken t (length s) ≡ b → cond b (read_as (base_in t) (word_count t)) None ≡ Some r
+        → (is_memory_text t ≡ true) × (r.base ≡ base_in t) × (take r.count (cond b (memory_in t ++ drop (word_count t) s) s) ≡ memory_in t)
     go true p q =
-        ((both (is_memory_text t) (leb (word_count t) (length s)) p).0, refl, rw (← memory-length t) (take-append_seam (memory_in t) (drop (length (memory_in t)) s)))
-    go false p q = contradiction q refl
+        let same : record { base = base_in t; count = word_count t } ≡ r = cc in (
+          (both (is_memory_text t) (leb (word_count t) (length s)) p).0,
+          sym (ap (λ (x : Reading). x.base) same),
+          rw (← same, ← memory-length t) (take-append_seam (memory_in t) (drop (length (memory_in t)) s)),
+        )
+    go false p q = cc

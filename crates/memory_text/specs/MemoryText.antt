@@ -1,5 +1,5 @@
 -- The program's MEMORY: a line `base=`, then a line `word=` for each word, each with 16 lower-case hexadecimal digits and a line feed.
-use Rattle.std.specs.Prelude.{ℕ, ◌-◌, ◌/◌, Bool, true, false, cond, ◌&&◌, List, ◌∷◌, ◌++◌, leb, length, get_or, drop, replicate}
+use Rattle.std.specs.Prelude.{ℕ, ◌-◌, ◌/◌, Bool, cond, ◌&&◌, List, ◌∷◌, ◌++◌, leb, length, get_or, drop, replicate, Option, Some, None}
 use Prim.Native.String.{String}
 use Rattle.lines.specs.Lines.{lines_of, words_in, is_text}
 use Rattle.memory_text.specs.declared.Reading.{Reading}
@@ -36,14 +36,11 @@ memory_in t = drop 1 (words_in (keys (word_count t)) t)
 unfoldable pub is_taken : List ℕ → ℕ → Bool
 is_taken t room = is_memory_text t && leb (word_count t) room
 
-abbrev pub read_as : ℕ → ℕ → Reading
-read_as base count = record { ok = true; base = base; count = count }
+abbrev pub read_as : ℕ → ℕ → Option Reading
+read_as base count = Some (record { base = base; count = count })
 
-abbrev pub no_memory : Reading
-no_memory = record { ok = false; base = 0; count = 0 }
-
-unfoldable pub read_memory : List ℕ → ℕ → Reading
-read_memory t room = cond (is_taken t room) (read_as (base_in t) (word_count t)) no_memory
+unfoldable pub read_memory : List ℕ → ℕ → Option Reading
+read_memory t room = cond (is_taken t room) (read_as (base_in t) (word_count t)) None
 
 -- the slice afterwards: the words at its front, and the rest as it was; all of it where the text is not taken
 unfoldable pub stored_in : List ℕ → List ℕ → List ℕ

@@ -1,18 +1,17 @@
 // The text of a memory: a line of 22 bytes for the address of its first word, then one for each word.
 #![tactic(auto)]
 
-ghost use Rattle.std.specs.Prelude.{◌≡◌, ◌≤◌, length};
+ghost use Rattle.std.specs.Prelude.{◌≡◌, ◌≤◌, length, IfSome};
 ghost use Rattle.memory_text.specs.MemoryText.{is_memory_text, read_memory, stored_in};
 
-// What is read of a text: zeros where it is not ok.
-#[derive(Clone, Copy)]
+// What is read of a text: the address of the first word, and how many words there are.
+#[derive(Clone, Copy, Debug, PartialEq, Eq)]
 pub struct Reading {
-    pub ok: bool,
     pub base: u64,
     pub count: usize,
 }
 
-// Whether a text is in the form, with at most 65,536 words. Every line is looked at.
+// Whether a text is in the form, with at most 65,536 words.
 fn is_memory_text(text: &[u8]) -> bool
     ensures { result ≡ is_memory_text text.now }
 {
@@ -26,46 +25,36 @@ fn is_memory_text(text: &[u8]) -> bool
     if total > 65537 {
         return false;
     }
-    let mut ok = lines::read_line(text, 0, b"base=").ok;
-    let mut i: usize = 1;
-    while i < total {
-        ok = ok & lines::read_line(text, 22 * i, b"word=").ok;
-        i += 1;
+    if lines::read_line(text, 0, b"base=").is_none() {
+        return false;
     }
-    ok
+    for i in 1..total {
+        if lines::read_line(text, 22 * i, b"word=").is_none() {
+            return false;
+        }
+    }
+    true
 }
 
 // Reads base and words; the words go to the front of the slice. A text that is not in the form, that has more than 65,536 words, or more
 // than the slice has room for, leaves the slice as it was.
-pub fn read(text: &[u8], words: &mut [u64]) -> Reading
+#[tactic(auto, unfolding(crate::specs::MemoryText::is_taken, crate::specs::MemoryText::read_memory, crate::specs::MemoryText::stored_in))]
+pub fn read(text: &[u8], words: &mut [u64]) -> Option<Reading>
     ensures value { result ≡ read_memory text.now (length words.old) }
     ensures words_after { words.new ≡ stored_in text.now words.old }
-    ensures count_in_bounds { result.count ≤ length words.old }
+    ensures count_in_bounds { IfSome result (λ reading. reading.count ≤ length words.old) }
 {
     if !is_memory_text(text) {
-        return Reading {
-            ok: false,
-            base: 0,
-            count: 0,
-        };
+        return None;
     }
     let count = text.len() / 22 - 1;
     if words.len() < count {
-        return Reading {
-            ok: false,
-            base: 0,
-            count: 0,
-        };
+        return None;
     }
-    let mut i: usize = 0;
-    while i < count {
-        words[i] = lines::read_word(text, 22 * i + 27).word;
-        i += 1;
+    // No word is missing in a text in the form.
+    for i in 0..count {
+        words[i] = lines::read_word(text, 22 * i + 27).unwrap_or(0);
     }
-    let base = lines::read_word(text, 5).word;
-    Reading {
-        ok: true,
-        base,
-        count,
-    }
+    let base = lines::read_word(text, 5).unwrap_or(0);
+    Some(Reading { base, count })
 }

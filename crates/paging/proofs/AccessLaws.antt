@@ -1,33 +1,29 @@
 -- An access part by part, and a part check by check. Assumes nothing.
-use Rattle.std.proofs.Common.{◌≡◌, ℕ, zero, suc, ◌+◌, ◌-◌, ◌%◌, ◌^◌, Bool, true, false, eqb, sym, refl, ap, ◌∙◌, arith, eq-eqb, ne_eqb, eqb-true}
+use Rattle.std.proofs.Common.{◌≡◌, ℕ, zero, suc, ◌+◌, ◌-◌, ◌%◌, ◌^◌, Bool, true, false, eqb, sym, refl, ap, ◌∙◌, Ok, Err, arith, eq-eqb, ne_eqb, eqb-true}
 use borrow.Author.Tests.{eqb-false}
 use Rattle.pmp.specs.declared.Access.{Access}
 use Rattle.pmp.specs.declared.Decision.{Decision}
 use Rattle.pmp.specs.declared.Decision.TheVariants.{Granted as RuleGrants, Fault as RuleFaults, Refused as RuleRefuses}
-use Rattle.pmp.specs.Number.{fault_cause}
 use Rattle.protection.specs.Spans.{spans_of}
 use Rattle.pmp.specs.Rule.{none, byte_rule}
 use Rattle.pmp.proofs.Answered.{GrantOrFault, grants as rule-grants, faults as rule-faults, rule_answers}
 use Rattle.protection.specs.declared.Pmp.{Pmp}
 use Rattle.paging.specs.declared.Context.{Context}
 use Rattle.paging.specs.declared.Check.{Check}
-use Rattle.paging.specs.declared.Word.{Word}
-use Rattle.paging.specs.declared.Word.TheVariants.{Denied}
-use Rattle.paging.specs.declared.Walked.TheVariants.{At}
-use Rattle.paging.specs.declared.Reached.{Reached}
-use Rattle.paging.specs.declared.Reached.TheVariants.{Granted, Fault}
-use Rattle.paging.specs.Memory.{Memory, word_at}
+use Rattle.paging.specs.declared.WalkFault.TheVariants.{Page as PageFault, Denied}
+use Rattle.paging.specs.Memory.{Memory, Word, word_at}
+use Rattle.paging.specs.Entry.{Says}
 use Rattle.paging.specs.Walk.{canonical, read_by, table_read, word_says, onward, found_at, walk_from, next_check}
-use Rattle.paging.specs.Access.{page_fault_cause, translated, by_rule, and_then, located, arrived, part_reached, parts_reached}
+use Rattle.paging.specs.Access.{Reached, translated, faulted, by_rule, and_then, located, arrived, part_reached, parts_reached}
 use Rattle.paging.proofs.WalkLaws.{walk_whole, walk_stray}
 
 -- ---- a part, check by check
 
 -- the byte rule never refuses, and faults with the cause of the access's kind
 abbrev pub denied : Access → ℕ → Decision → Reached
-denied access tval (RuleGrants entry) = Granted entry
-denied access tval (RuleFaults cause entry) = Fault (fault_cause access) tval entry
-denied access tval (RuleRefuses number) = Fault (fault_cause access) tval none
+denied access tval (RuleGrants entry) = Ok entry
+denied access tval (RuleFaults cause entry) = Err (faulted access tval (Denied entry))
+denied access tval (RuleRefuses refusal) = Err (faulted access tval (Denied none))
 
 denied_rule : (access : Access) (tval : ℕ) (d : Decision) → GrantOrFault access d → by_rule tval d ≡ denied access tval d
 denied_rule access tval _ (rule-grants entry h) = refl
@@ -36,7 +32,7 @@ denied_rule access tval _ (rule-faults entry h) = refl
 module _ (p : Pmp) (m : Memory) (c : Context) (address size : ℕ) where
   -- what a part comes to where so many levels are left: the walk from this table on, or the access at this physical address
   abbrev pub stage : ℕ → ℕ → Reached
-  stage zero place = arrived p m c address size (At place)
+  stage zero place = arrived p m c address size (Ok place)
   stage (suc level) table = arrived p m c address size (walk_from p m c address (suc level) table)
 
   pub stage_physical : translated c ≡ false → stage 0 address ≡ part_reached p m c address size
@@ -48,7 +44,7 @@ module _ (p : Pmp) (m : Memory) (c : Context) (address size : ℕ) where
   stage_walk t k = rw (t, walk_whole p m c address k)
 
   pub stage_stray : translated c ≡ true → canonical address ≡ false
-      → Fault (page_fault_cause c.access) address none ≡ part_reached p m c address size
+      → Err (faulted c.access address PageFault) ≡ part_reached p m c address size
   unfolding part_reached located
   stage_stray t k = rw (t, walk_stray p m c address k)
 
@@ -87,6 +83,13 @@ module _ (p : Pmp) (m : Memory) (c : Context) (address size : ℕ) where
         go zero s v h j = absurd (omega arith)
         go (suc l) s v h j = let b : below ≡ l = omega arith in rw (b, ← q, j, ← h) v
 
+    -- .. where it is granted, and its word says this
+    pub check_says : (entry below : ℕ) (f : Says) → d ≡ RuleGrants entry → levels ≡ suc below → word_says c address below (word_at m k.place) ≡ f
+        → arrived p m c address size (onward (walk_from p m c address below) f) ≡ whole
+    check_says entry below f g s v =
+        rw (← v)
+        (check_reads below (word_at m k.place) s (ap (λ (y : Decision). read_by y (word_at m k.place)) g))
+
     kind : levels ≡ 0 → k.access ≡ c.access
     kind z = rw (asked, z)
 
@@ -95,13 +98,13 @@ module _ (p : Pmp) (m : Memory) (c : Context) (address size : ℕ) where
         rw (← (kind z), ← e, answer) (rule_answers (spans_of p) p.cfgs k.mode k.access k.place k.size)
 
     -- a check that is not granted, whichever it is, is a fault of the access's kind
-    pub check_denies : (entry : ℕ) → ((word : Word) → read_by d word ≡ Denied entry)
-        → denied c.access address d ≡ Fault (fault_cause c.access) address entry → Fault (fault_cause c.access) address entry ≡ whole
+    pub check_denies : (entry : ℕ) → ((word : Word) → read_by d word ≡ Err (Denied entry))
+        → denied c.access address d ≡ Err (faulted c.access address (Denied entry)) → Err (faulted c.access address (Denied entry)) ≡ whole
     check_denies entry reads held = go levels refl
       where
-        go : (l : ℕ) → levels ≡ l → Fault (fault_cause c.access) address entry ≡ whole
+        go : (l : ℕ) → levels ≡ l → Err (faulted c.access address (Denied entry)) ≡ whole
         go zero z = sym held ∙ sym (denied_rule c.access address d (answers z)) ∙ check_ends z
-        go (suc l) z = check_reads l (Denied entry) z (reads (word_at m k.place))
+        go (suc l) z = check_reads l (Err (Denied entry)) z (reads (word_at m k.place))
 
   -- the walk from a level on
   pub stage_on : (level table : ℕ) → (level ≡ 0 → ⊥) → arrived p m c address size (walk_from p m c address level table) ≡ stage level table
@@ -109,7 +112,7 @@ module _ (p : Pmp) (m : Memory) (c : Context) (address size : ℕ) where
   stage_on (suc level) table n = refl
 
   pub stage_out : (level table : ℕ) → level ≡ 0
-      → arrived p m c address size (walk_from p m c address level table) ≡ Fault (page_fault_cause c.access) address none
+      → arrived p m c address size (walk_from p m c address level table) ≡ Err (faulted c.access address PageFault)
   unfolding walk_from
   stage_out level table z = rw z
 
@@ -144,7 +147,7 @@ module _ (p : Pmp) (m : Memory) (c : Context) (first address size : ℕ) where
             ∙ w
 
     -- a part that is granted leaves the next, which is all of the rest
-    pub parts_next : (entry : ℕ) → (first ≡ size → ⊥) → part_reached p m c address first ≡ Granted entry
+    pub parts_next : (entry : ℕ) → (first ≡ size → ⊥) → part_reached p m c address first ≡ Ok entry
         → parts_reached p m c (size - first) ((address + first) % 2 ^ 64) (size - first) ≡ whole
     unfolding parts_reached
     parts_next entry n h =

@@ -1,6 +1,6 @@
 -- What an access comes to: refusal 13, refusal 1, or a grant or a fault with one of its kind's two causes, by an entry or none; and, untranslated, what the byte
 -- rule decides. Assumes nothing.
-use Rattle.std.proofs.Common.{◌≡◌, ℕ, zero, suc, ◌+◌, ◌-◌, ◌%◌, ◌^◌, ◌≤◌, min, Bool, true, false, cond, eqb, ◌⊎◌, refl, ap, ◌∙◌, inl, inr, arith, eq-eqb}
+use Rattle.std.proofs.Common.{◌≡◌, ℕ, zero, suc, ◌+◌, ◌-◌, ◌%◌, ◌^◌, ◌≤◌, min, Bool, true, false, cond, eqb, ◌⊎◌, refl, ap, ◌∙◌, inl, inr, Ok, Err, arith, eq-eqb}
 use native.Mathlib.Decide.{dec_le}
 use borrow.Author.Tests.{eqb-false}
 use Rattle.bits.proofs.Conjunction.{by_test}
@@ -9,39 +9,39 @@ use Rattle.pmp.specs.declared.Access.{Access}
 use Rattle.pmp.specs.declared.Access.TheVariants.{Fetch, Load, Store}
 use Rattle.pmp.specs.declared.Decision.{Decision}
 use Rattle.pmp.specs.declared.Decision.TheVariants.{Refused as RuleRefuses}
+use Rattle.pmp.specs.declared.Refusal.{Refusal}
 use Rattle.pmp.specs.Number.{fault_cause}
 use Rattle.protection.specs.Spans.{spans_of}
 use Rattle.pmp.specs.Rule.{none, is_size, checked}
 use Rattle.pmp.proofs.Answered.{GrantOrFault, grants as rule-grants, faults as rule-faults, rule_answers}
 use Rattle.protection.specs.declared.Pmp.{Pmp}
 use Rattle.paging.specs.declared.Context.{Context}
-use Rattle.paging.specs.declared.Word.{Word}
-use Rattle.paging.specs.declared.Word.TheVariants.{Read, Denied}
-use Rattle.paging.specs.declared.Walked.{Walked}
-use Rattle.paging.specs.declared.Walked.TheVariants.{At, PageFault, AccessFault}
-use Rattle.paging.specs.declared.Found.{Found}
-use Rattle.paging.specs.declared.Found.TheVariants.{Table, Ends}
-use Rattle.paging.specs.declared.Reached.{Reached}
-use Rattle.paging.specs.declared.Reached.TheVariants.{Granted, Fault, Refused}
-use Rattle.paging.specs.Memory.{Memory, lawful, has_word, word_at}
-use Rattle.paging.specs.Entry.{ppn, well_formed, leaf, allows, reserved, physical, entry_says}
-use Rattle.paging.specs.Walk.{canonical, entry_address, read_by, table_read, word_says, onward, found_at, walk_from, walked}
-use Rattle.paging.specs.Access.{page_fault_cause, translated, by_rule, and_then, room, first_part, located, decided, arrived, part_reached, parts_reached, reached}
+use Rattle.paging.specs.declared.WalkFault.{WalkFault}
+use Rattle.paging.specs.declared.WalkFault.TheVariants.{Page as PageFault, Denied}
+use Rattle.paging.specs.declared.Found.TheVariants.{Table, Page}
+use Rattle.paging.specs.declared.NotGranted.TheVariants.{Fault, Refused}
+use Rattle.paging.specs.Memory.{Memory, Word, lawful, has_word, word_at}
+use Rattle.paging.specs.Entry.{Says, ppn, well_formed, leaf, allows, reserved, physical, entry_says}
+use Rattle.paging.specs.Walk.{Walked, canonical, entry_address, read_by, table_read, word_says, onward, found_at, walk_from, walked}
+use Rattle.paging.specs.Access.{Reached, page_fault_cause, translated, by_rule, and_then, room, first_part, located, decided, arrived, part_reached, parts_reached, reached}
 
 -- ---- a walk is denied by an entry or none
 
+abbrev ByEntry : WalkFault → Type 0
+ByEntry PageFault = Unit {0}
+ByEntry (Denied entry) = entry ≤ none
+
 abbrev ReadByEntry : Word → Type 0
-ReadByEntry (Read word) = Unit {0}
-ReadByEntry (Denied entry) = entry ≤ none
+ReadByEntry (Ok word) = Unit {0}
+ReadByEntry (Err fault) = ByEntry fault
 
 abbrev EndsByEntry : Walked → Type 0
-EndsByEntry (At place) = Unit {0}
-EndsByEntry PageFault = Unit {0}
-EndsByEntry (AccessFault entry) = entry ≤ none
+EndsByEntry (Ok place) = Unit {0}
+EndsByEntry (Err fault) = ByEntry fault
 
-abbrev FoundByEntry : Found → Type 0
-FoundByEntry (Table table) = Unit {0}
-FoundByEntry (Ends w) = EndsByEntry w
+abbrev FoundByEntry : Says → Type 0
+FoundByEntry (Ok found) = Unit {0}
+FoundByEntry (Err fault) = ByEntry fault
 
 read-by-entry : (access : Access) (d : Decision) (w : Word) → GrantOrFault access d → ReadByEntry w → ReadByEntry (read_by d w)
 read-by-entry access _ w (rule-grants entry h) r = r
@@ -56,17 +56,18 @@ entry-by-entry c address level pte =
     by_test FoundByEntry (well_formed pte) _ _
     (λ t.
     by_test FoundByEntry (leaf pte) _ _
-    (λ u. by_test EndsByEntry (allows c level pte) (At (physical level pte address)) PageFault (λ v. tt) (λ v. tt))
-    (λ u. by_test FoundByEntry (reserved pte) (Ends PageFault) (Table (ppn pte)) (λ v. tt) (λ v. tt)))
+    (λ u. by_test FoundByEntry (allows c level pte) (Ok (Page (physical level pte address))) (Err PageFault) (λ v. tt) (λ v. tt))
+    (λ u. by_test FoundByEntry (reserved pte) (Err PageFault) (Ok (Table (ppn pte))) (λ v. tt) (λ v. tt)))
     (λ t. tt)
 
 says-by-entry : (c : Context) (address level : ℕ) (w : Word) → ReadByEntry w → FoundByEntry (word_says c address level w)
-says-by-entry c address level (Read pte) r = entry-by-entry c address level pte
-says-by-entry c address level (Denied entry) r = r
+says-by-entry c address level (Ok pte) r = entry-by-entry c address level pte
+says-by-entry c address level (Err fault) r = r
 
-onward-by-entry : (next : ℕ → Walked) (f : Found) → ((table : ℕ) → EndsByEntry (next table)) → FoundByEntry f → EndsByEntry (onward next f)
-onward-by-entry next (Table table) n f = n table
-onward-by-entry next (Ends w) n f = f
+onward-by-entry : (next : ℕ → Walked) (f : Says) → ((table : ℕ) → EndsByEntry (next table)) → FoundByEntry f → EndsByEntry (onward next f)
+onward-by-entry next (Ok (Table table)) n f = n table
+onward-by-entry next (Ok (Page place)) n f = tt
+onward-by-entry next (Err fault) n f = f
 
 module _ (p : Pmp) (m : Memory) (c : Context) (address : ℕ) where
   found_by-entry : (level table : ℕ) → FoundByEntry (found_at p m c address level table)
@@ -92,9 +93,9 @@ module _ (p : Pmp) (m : Memory) (c : Context) (address : ℕ) where
 
 -- a grant by an entry or none; or, with the trap value at one of these starts, an access fault by an entry or none, or a page fault by none
 pub data Answered (access : Access) (Start : ℕ → Type 0) : Reached → Type 0 where
-  grants : (entry : ℕ) → entry ≤ none → Answered access Start (Granted entry)
-  faults : (tval entry : ℕ) → Start tval → entry ≤ none → Answered access Start (Fault (fault_cause access) tval entry)
-  page_faults : (tval : ℕ) → Start tval → Answered access Start (Fault (page_fault_cause access) tval none)
+  grants : (entry : ℕ) → entry ≤ none → Answered access Start (Ok entry)
+  faults : (tval entry : ℕ) → Start tval → entry ≤ none → Answered access Start (Err (Fault (fault_cause access) tval entry))
+  page_faults : (tval : ℕ) → Start tval → Answered access Start (Err (Fault (page_fault_cause access) tval none))
 
 -- no cause is above 15
 pub fault-bound : (access : Access) → fault_cause access ≤ 15
@@ -138,10 +139,10 @@ first-room c address size n = go (translated c) n
 
 module _ (p : Pmp) (m : Memory) (c : Context) where
   arrived-answered : (address size : ℕ) (w : Walked) → EndsByEntry w → Answered c.access (λ t. t ≡ address) (arrived p m c address size w)
-  arrived-answered address size (At place) e =
+  arrived-answered address size (Ok place) e =
       rule_answered c.access address _ (rule_answers (spans_of p) p.cfgs c.mode c.access place size)
-  arrived-answered address size PageFault e = page_faults address refl
-  arrived-answered address size (AccessFault entry) e = faults address entry refl e
+  arrived-answered address size (Err PageFault) e = page_faults address refl
+  arrived-answered address size (Err (Denied entry)) e = faults address entry refl e
 
   part_answered : (address size : ℕ) → Answered c.access (λ t. t ≡ address) (part_reached p m c address size)
   unfolding part_reached
@@ -164,11 +165,11 @@ module _ (p : Pmp) (m : Memory) (c : Context) where
       (part_answered next (size - first)) (λ v e. inl e)
       (λ v e. inr (e ∙ ap (λ (k : ℕ). (address + k) % 2 ^ 64) (ends (eqb-false first size t)))))
 
-  pub reached_unlawful : (address size : ℕ) → lawful m ≡ false → reached p m c address size ≡ Refused 13
+  pub reached_unlawful : (address size : ℕ) → lawful m ≡ false → reached p m c address size ≡ Err (Refused Refusal.Memory)
   unfolding reached
   reached_unlawful address size l = rw l
 
-  pub reached_missized : (address size : ℕ) → lawful m ≡ true → is_size size ≡ false → reached p m c address size ≡ Refused 1
+  pub reached_missized : (address size : ℕ) → lawful m ≡ true → is_size size ≡ false → reached p m c address size ≡ Err (Refused Refusal.Size)
   unfolding reached
   reached_missized address size l s = rw (l, s)
 
@@ -183,6 +184,6 @@ module _ (p : Pmp) (m : Memory) (c : Context) where
   unfolding reached parts_reached part_reached located checked
   reached-physical address size l n = rw (l, n, eq-eqb size size refl) (by_size (is_size size) (decided p m c address size))
     where
-      by_size : (s : Bool) (d : Decision) → cond s (by_rule address d) (Refused 1) ≡ by_rule address (cond s d (RuleRefuses 1))
+      by_size : (s : Bool) (d : Decision) → cond s (by_rule address d) (Err (Refused Refusal.Size)) ≡ by_rule address (cond s d (RuleRefuses Refusal.Size))
       by_size true d = refl
       by_size false d = refl

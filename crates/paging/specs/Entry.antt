@@ -1,5 +1,5 @@
 -- 02, [8]: what an entry of a page table (PTE) says: V, R, W, X, U, G, A, D are bits 0 to 7, RSW bits 9:8, PPN bits 53:10.
-use Rattle.std.specs.Prelude.{ℕ, ◌+◌, ◌*◌, ◌/◌, ◌%◌, ◌^◌, Bool, true, false, cond, not, ◌&&◌, ◌||◌, ◌==◌}
+use Rattle.std.specs.Prelude.{ℕ, ◌+◌, ◌*◌, ◌/◌, ◌%◌, ◌^◌, Bool, true, false, cond, not, ◌&&◌, ◌||◌, ◌==◌, Result, Ok, Err}
 use Rattle.bits.specs.Mask.{test_bit}
 use Rattle.pmp.specs.declared.Mode.{Mode}
 use Rattle.pmp.specs.declared.Mode.TheVariants.{User, Supervisor, Machine}
@@ -7,10 +7,10 @@ use Rattle.pmp.specs.declared.Access.{Access}
 use Rattle.pmp.specs.declared.Access.TheVariants.{Fetch, Load, Store}
 use Rattle.registers.specs.Status.{sum, mxr}
 use Rattle.paging.specs.declared.Context.{Context}
-use Rattle.paging.specs.declared.Walked.{Walked}
-use Rattle.paging.specs.declared.Walked.TheVariants.{At, PageFault}
+use Rattle.paging.specs.declared.WalkFault.{WalkFault}
+use Rattle.paging.specs.declared.WalkFault.TheVariants.{Page as PageFault}
 use Rattle.paging.specs.declared.Found.{Found}
-use Rattle.paging.specs.declared.Found.TheVariants.{Table, Ends}
+use Rattle.paging.specs.declared.Found.TheVariants.{Table, Page}
 
 abbrev pub valid : ℕ → Bool
 valid pte = test_bit pte 0
@@ -88,16 +88,20 @@ abbrev pub allows : Context → ℕ → ℕ → Bool
 allows c level pte =
     permits c.access c.mstatus pte && (usable c.mode c.access c.mstatus pte && (aligned level pte && marked c.access pte))
 
-abbrev pub leaf_says : Context → ℕ → ℕ → ℕ → Walked
-leaf_says c address level pte = cond (allows c level pte) (At (physical level pte address)) PageFault
+-- what an entry says, or why the walk ends at it
+abbrev pub Says : Type 0
+Says = Result Found WalkFault
+
+abbrev pub leaf_says : Context → ℕ → ℕ → ℕ → Says
+leaf_says c address level pte = cond (allows c level pte) (Ok (Page (physical level pte address))) (Err PageFault)
 
 -- U, A and D of a pointer are reserved: a page fault where one is set
 abbrev pub reserved : ℕ → Bool
 reserved pte = user pte || (accessed pte || dirty pte)
 
-abbrev pub pointer_says : ℕ → Found
-pointer_says pte = cond (reserved pte) (Ends PageFault) (Table (ppn pte))
+abbrev pub pointer_says : ℕ → Says
+pointer_says pte = cond (reserved pte) (Err PageFault) (Ok (Table (ppn pte)))
 
-unfoldable pub entry_says : Context → ℕ → ℕ → ℕ → Found
+unfoldable pub entry_says : Context → ℕ → ℕ → ℕ → Says
 entry_says c address level pte =
-    cond (well_formed pte) (cond (leaf pte) (Ends (leaf_says c address level pte)) (pointer_says pte)) (Ends PageFault)
+    cond (well_formed pte) (cond (leaf pte) (leaf_says c address level pte) (pointer_says pte)) (Err PageFault)

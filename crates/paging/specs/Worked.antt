@@ -1,19 +1,18 @@
 -- 02, [8]: worked page tables, as one table.
-use Rattle.std.specs.Prelude.{◌≡◌, ℕ, zero, suc, ◌+◌, ◌-◌, ◌*◌, ◌^◌, List, [], ◌∷◌, replicate}
+use Rattle.std.specs.Prelude.{◌≡◌, ℕ, zero, suc, ◌+◌, ◌-◌, ◌*◌, ◌^◌, List, [], ◌∷◌, replicate, Ok, Err}
 use Rattle.pmp.specs.declared.Mode.{Mode}
 use Rattle.pmp.specs.declared.Mode.TheVariants.{User, Supervisor, Machine}
 use Rattle.pmp.specs.declared.Access.{Access}
 use Rattle.pmp.specs.declared.Access.TheVariants.{Fetch, Load, Store}
+use Rattle.pmp.specs.declared.Refusal.{Refusal}
 use Rattle.pmp.specs.Rule.{none}
 use Rattle.protection.specs.declared.Pmp.{Pmp}
 use Rattle.paging.specs.declared.Context.{Context}
-use Rattle.paging.specs.declared.Walked.{Walked}
-use Rattle.paging.specs.declared.Walked.TheVariants.{At, PageFault, AccessFault}
-use Rattle.paging.specs.declared.Reached.{Reached}
-use Rattle.paging.specs.declared.Reached.TheVariants.{Granted, Fault, Refused}
+use Rattle.paging.specs.declared.WalkFault.TheVariants.{Page as PageFault, Denied}
+use Rattle.paging.specs.declared.NotGranted.TheVariants.{Fault, Refused}
 use Rattle.paging.specs.Memory.{Memory, memory_at}
-use Rattle.paging.specs.Walk.{walked}
-use Rattle.paging.specs.Access.{reached}
+use Rattle.paging.specs.Walk.{Walked, walked}
+use Rattle.paging.specs.Access.{Reached, reached}
 
 -- an entry: a page number and flags
 abbrev pub entry : ℕ → ℕ → ℕ
@@ -79,83 +78,83 @@ AllRight (s ∷ settings) = Right s × AllRight settings
 abbrev pub reserved_bits : ℕ → List Setting → List Setting
 reserved_bits zero settings = settings
 reserved_bits (suc n) settings =
-    walks (entry 0x12345 0xCF + 2 ^ (54 + n)) Supervisor Load 0 (va 0 0 1 0) PageFault ∷ reserved_bits n settings
+    walks (entry 0x12345 0xCF + 2 ^ (54 + n)) Supervisor Load 0 (va 0 0 1 0) (Err PageFault) ∷ reserved_bits n settings
 
 -- the table
 abbrev pub settings : List Setting
 settings =
     -- pages of 4 KiB, 2 MiB and 1 GiB; G and RSW do not matter
-    walks (entry 0x12345 0xCF) Supervisor Load 0 (va 0 0 1 0x234) (At 0x12345234)
-    ∷ walks (entry 0x40200 0xCF) Supervisor Store 0 (va 0 1 0x1FF 0x234) (At 0x403FF234)
-    ∷ walks (entry 0x40000 0xCF) Supervisor Fetch 0 (va 1 0x1FF 0x1FF 0x234) (At 0x7FFFF234)
-    ∷ walks (entry (2 ^ 44 - 1) 0x3EF) Supervisor Load 0 (va 0 0 1 0x234) (At (2 ^ 56 - 0xDCC))
+    walks (entry 0x12345 0xCF) Supervisor Load 0 (va 0 0 1 0x234) (Ok 0x12345234)
+    ∷ walks (entry 0x40200 0xCF) Supervisor Store 0 (va 0 1 0x1FF 0x234) (Ok 0x403FF234)
+    ∷ walks (entry 0x40000 0xCF) Supervisor Fetch 0 (va 1 0x1FF 0x1FF 0x234) (Ok 0x7FFFF234)
+    ∷ walks (entry (2 ^ 44 - 1) 0x3EF) Supervisor Load 0 (va 0 0 1 0x234) (Ok (2 ^ 56 - 0xDCC))
     -- a superpage that is misaligned
-    ∷ walks (entry 0x40201 0xCF) Supervisor Load 0 (va 0 1 0 0) PageFault
-    ∷ walks (entry 0x40001 0xCF) Supervisor Load 0 (va 1 0 0 0) PageFault
-    ∷ walks (entry 0x40200 0xCF) Supervisor Load 0 (va 1 0 0 0) PageFault
+    ∷ walks (entry 0x40201 0xCF) Supervisor Load 0 (va 0 1 0 0) (Err PageFault)
+    ∷ walks (entry 0x40001 0xCF) Supervisor Load 0 (va 1 0 0 0) (Err PageFault)
+    ∷ walks (entry 0x40200 0xCF) Supervisor Load 0 (va 1 0 0 0) (Err PageFault)
     -- V=0; R=0 with W=1; bits 63:54
-    ∷ walks (entry 0x12345 0xCE) Supervisor Load 0 (va 0 0 1 0) PageFault
-    ∷ walks (entry 0x12345 0xC5) Supervisor Store 0 (va 0 0 1 0) PageFault
-    ∷ walks (entry 0x12345 0xCD) Supervisor Fetch 0 (va 0 0 1 0) PageFault
+    ∷ walks (entry 0x12345 0xCE) Supervisor Load 0 (va 0 0 1 0) (Err PageFault)
+    ∷ walks (entry 0x12345 0xC5) Supervisor Store 0 (va 0 0 1 0) (Err PageFault)
+    ∷ walks (entry 0x12345 0xCD) Supervisor Fetch 0 (va 0 0 1 0) (Err PageFault)
     ∷ reserved_bits 10
     -- a pointer, at level 0 too; G and RSW do not matter; U, A and D are reserved
-    (walks (entry home 0x01) Supervisor Load 0 (va 1 0 2 0) (At 0x12345000)
-    ∷ walks (entry home 0x01) Supervisor Load 0 (va 0 0 1 0) PageFault
-    ∷ walks (entry home 0x321) Supervisor Load 0 (va 1 1 2 0) (At 0x12345000)
-    ∷ walks (entry home 0x11) Supervisor Load 0 (va 1 0 2 0) PageFault
-    ∷ walks (entry home 0x41) Supervisor Load 0 (va 0 1 2 0) PageFault
-    ∷ walks (entry home 0x81) Supervisor Load 0 (va 1 0 2 0) PageFault
+    (walks (entry home 0x01) Supervisor Load 0 (va 1 0 2 0) (Ok 0x12345000)
+    ∷ walks (entry home 0x01) Supervisor Load 0 (va 0 0 1 0) (Err PageFault)
+    ∷ walks (entry home 0x321) Supervisor Load 0 (va 1 1 2 0) (Ok 0x12345000)
+    ∷ walks (entry home 0x11) Supervisor Load 0 (va 1 0 2 0) (Err PageFault)
+    ∷ walks (entry home 0x41) Supervisor Load 0 (va 0 1 2 0) (Err PageFault)
+    ∷ walks (entry home 0x81) Supervisor Load 0 (va 1 0 2 0) (Err PageFault)
     -- bits 63:39 unlike bit 38; where all are 1, the read is of word 256, which is outside the slice
-    ∷ walks 0 Supervisor Load 0 (va 0 0 2 0 + 2 ^ 39) PageFault
-    ∷ walks 0 Supervisor Load 0 (va 0 0 2 0 + 2 ^ 63) PageFault
-    ∷ walks 0 Supervisor Load 0 (2 ^ 38) PageFault
-    ∷ walks 0 Supervisor Load 0 (2 ^ 64 - 2 ^ 38) (AccessFault none)
+    ∷ walks 0 Supervisor Load 0 (va 0 0 2 0 + 2 ^ 39) (Err PageFault)
+    ∷ walks 0 Supervisor Load 0 (va 0 0 2 0 + 2 ^ 63) (Err PageFault)
+    ∷ walks 0 Supervisor Load 0 (2 ^ 38) (Err PageFault)
+    ∷ walks 0 Supervisor Load 0 (2 ^ 64 - 2 ^ 38) (Err (Denied none))
     -- the page's own permission, and MXR
-    ∷ walks (entry 0x12345 0x49) Supervisor Fetch 0 (va 0 0 1 0) (At 0x12345000)
-    ∷ walks (entry 0x12345 0xC7) Supervisor Fetch 0 (va 0 0 1 0) PageFault
-    ∷ walks (entry 0x12345 0xCB) Supervisor Store 0 (va 0 0 1 0) PageFault
-    ∷ walks (entry 0x12345 0xC9) Supervisor Load 0 (va 0 0 1 0) PageFault
-    ∷ walks (entry 0x12345 0xC9) Supervisor Load mxr_bit (va 0 0 1 0) (At 0x12345000)
-    ∷ walks (entry 0x12345 0xC9) Supervisor Store mxr_bit (va 0 0 1 0) PageFault
+    ∷ walks (entry 0x12345 0x49) Supervisor Fetch 0 (va 0 0 1 0) (Ok 0x12345000)
+    ∷ walks (entry 0x12345 0xC7) Supervisor Fetch 0 (va 0 0 1 0) (Err PageFault)
+    ∷ walks (entry 0x12345 0xCB) Supervisor Store 0 (va 0 0 1 0) (Err PageFault)
+    ∷ walks (entry 0x12345 0xC9) Supervisor Load 0 (va 0 0 1 0) (Err PageFault)
+    ∷ walks (entry 0x12345 0xC9) Supervisor Load mxr_bit (va 0 0 1 0) (Ok 0x12345000)
+    ∷ walks (entry 0x12345 0xC9) Supervisor Store mxr_bit (va 0 0 1 0) (Err PageFault)
     -- U pages, and SUM, which never lets S execute
-    ∷ walks (entry 0x12345 0xDF) User Fetch 0 (va 0 0 1 0) (At 0x12345000)
-    ∷ walks (entry 0x12345 0xCF) User Load sum_bit (va 0 0 1 0) PageFault
-    ∷ walks (entry 0x12345 0xDF) Supervisor Load 0 (va 0 0 1 0) PageFault
-    ∷ walks (entry 0x12345 0xDF) Supervisor Load sum_bit (va 0 0 1 0) (At 0x12345000)
-    ∷ walks (entry 0x12345 0xDF) Supervisor Store sum_bit (va 0 0 1 0) (At 0x12345000)
-    ∷ walks (entry 0x12345 0xDF) Supervisor Fetch sum_bit (va 0 0 1 0) PageFault
+    ∷ walks (entry 0x12345 0xDF) User Fetch 0 (va 0 0 1 0) (Ok 0x12345000)
+    ∷ walks (entry 0x12345 0xCF) User Load sum_bit (va 0 0 1 0) (Err PageFault)
+    ∷ walks (entry 0x12345 0xDF) Supervisor Load 0 (va 0 0 1 0) (Err PageFault)
+    ∷ walks (entry 0x12345 0xDF) Supervisor Load sum_bit (va 0 0 1 0) (Ok 0x12345000)
+    ∷ walks (entry 0x12345 0xDF) Supervisor Store sum_bit (va 0 0 1 0) (Ok 0x12345000)
+    ∷ walks (entry 0x12345 0xDF) Supervisor Fetch sum_bit (va 0 0 1 0) (Err PageFault)
     -- A=0; D=0 on a store
-    ∷ walks (entry 0x12345 0x8F) Supervisor Load 0 (va 0 0 1 0) PageFault
-    ∷ walks (entry 0x12345 0x8F) Supervisor Store 0 (va 0 0 1 0) PageFault
-    ∷ walks (entry 0x12345 0x4F) Supervisor Fetch 0 (va 0 0 1 0) (At 0x12345000)
-    ∷ walks (entry 0x12345 0x4F) Supervisor Store 0 (va 0 0 1 0) PageFault
+    ∷ walks (entry 0x12345 0x8F) Supervisor Load 0 (va 0 0 1 0) (Err PageFault)
+    ∷ walks (entry 0x12345 0x8F) Supervisor Store 0 (va 0 0 1 0) (Err PageFault)
+    ∷ walks (entry 0x12345 0x4F) Supervisor Fetch 0 (va 0 0 1 0) (Ok 0x12345000)
+    ∷ walks (entry 0x12345 0x4F) Supervisor Store 0 (va 0 0 1 0) (Err PageFault)
     -- a table before the slice and one behind it; one that entry 1 denies, which is judged first
-    ∷ walks (entry 0x7FFFF 0x01) Supervisor Load 0 (va 1 0 2 0) (AccessFault none)
-    ∷ walks (entry 0x80001 0x01) Supervisor Load 0 (va 1 0 2 0) (AccessFault none)
-    ∷ walks (entry 0x90000 0x01) Supervisor Load 0 (va 1 0 2 0) (AccessFault 1)
+    ∷ walks (entry 0x7FFFF 0x01) Supervisor Load 0 (va 1 0 2 0) (Err (Denied none))
+    ∷ walks (entry 0x80001 0x01) Supervisor Load 0 (va 1 0 2 0) (Err (Denied none))
+    ∷ walks (entry 0x90000 0x01) Supervisor Load 0 (va 1 0 2 0) (Err (Denied 1))
     -- accesses: a grant, a page fault, a table that is denied, a page that is denied
-    ∷ reaches (entry 0x12345 0xCF) Supervisor Load 0 (va 0 0 1 0x234) 8 (Granted 3)
-    ∷ reaches (entry 0x12345 0xCF) User Store 0 (va 0 0 1 0x234) 8 (Fault 15 (va 0 0 1 0x234) none)
-    ∷ reaches (entry 0x12345 0xC7) Supervisor Fetch 0 (va 0 0 1 0) 4 (Fault 12 (va 0 0 1 0) none)
-    ∷ reaches (entry 0x90000 0x01) User Fetch 0 (va 1 0 2 4) 4 (Fault 1 (va 1 0 2 4) 1)
-    ∷ reaches (entry 0x12345 0xCF) Supervisor Store 0 (va 0 0 1 0x7FC) 8 (Fault 7 (va 0 0 1 0x7FC) 2)
+    ∷ reaches (entry 0x12345 0xCF) Supervisor Load 0 (va 0 0 1 0x234) 8 (Ok 3)
+    ∷ reaches (entry 0x12345 0xCF) User Store 0 (va 0 0 1 0x234) 8 (Err (Fault 15 (va 0 0 1 0x234) none))
+    ∷ reaches (entry 0x12345 0xC7) Supervisor Fetch 0 (va 0 0 1 0) 4 (Err (Fault 12 (va 0 0 1 0) none))
+    ∷ reaches (entry 0x90000 0x01) User Fetch 0 (va 1 0 2 4) 4 (Err (Fault 1 (va 1 0 2 4) 1))
+    ∷ reaches (entry 0x12345 0xCF) Supervisor Store 0 (va 0 0 1 0x7FC) 8 (Err (Fault 7 (va 0 0 1 0x7FC) 2))
     -- across a boundary each part keeps its own size: eight bytes would reach entry 0's. A boundary within a superpage counts
-    ∷ reaches (entry 0x40000 0xCF) Supervisor Store 0 (va 0 0 1 0xFFC) 8 (Granted 3)
-    ∷ reaches (entry 0x40000 0xCF) Supervisor Store 0 (va 0 1 0 0xFFC) 8 (Fault 7 (va 0 1 1 0) 0)
-    ∷ reaches (entry 0x40000 0xDF) User Load 0 (va 0 0 1 0xFFF) 2 (Fault 13 (va 0 0 2 0) none)
-    ∷ reaches (entry 0x40000 0x4F) Supervisor Store 0 (va 0 0 1 0xFFC) 8 (Fault 15 (va 0 0 1 0xFFC) none)
-    ∷ reaches 0 Supervisor Load 0 (va 0 0 2 0xFFC) 8 (Fault 5 (va 0 0 3 0) none)
+    ∷ reaches (entry 0x40000 0xCF) Supervisor Store 0 (va 0 0 1 0xFFC) 8 (Ok 3)
+    ∷ reaches (entry 0x40000 0xCF) Supervisor Store 0 (va 0 1 0 0xFFC) 8 (Err (Fault 7 (va 0 1 1 0) 0))
+    ∷ reaches (entry 0x40000 0xDF) User Load 0 (va 0 0 1 0xFFF) 2 (Err (Fault 13 (va 0 0 2 0) none))
+    ∷ reaches (entry 0x40000 0x4F) Supervisor Store 0 (va 0 0 1 0xFFC) 8 (Err (Fault 15 (va 0 0 1 0xFFC) none))
+    ∷ reaches 0 Supervisor Load 0 (va 0 0 2 0xFFC) 8 (Err (Fault 5 (va 0 0 3 0) none))
     -- round the end of the addresses: the second part starts at 0
-    ∷ loads last_word rooted Supervisor (2 ^ 64 - 1) 1 (Granted 3)
-    ∷ loads last_word rooted Supervisor (2 ^ 64 - 1) 2 (Fault 5 0 none)
+    ∷ loads last_word rooted Supervisor (2 ^ 64 - 1) 1 (Ok 3)
+    ∷ loads last_word rooted Supervisor (2 ^ 64 - 1) 2 (Err (Fault 5 0 none))
     -- mode M and MODE 0 are untranslated, and have no parts
-    ∷ reaches 0 Machine Store 0 0x40000FFC 8 (Fault 7 0x40000FFC 0)
-    ∷ loads (memory_at [] 0) home Supervisor 0x12345000 8 (Granted 3)
-    ∷ loads (memory_at [] 0) rooted Supervisor 0x12345000 8 (Fault 5 0x12345000 none)
+    ∷ reaches 0 Machine Store 0 0x40000FFC 8 (Err (Fault 7 0x40000FFC 0))
+    ∷ loads (memory_at [] 0) home Supervisor 0x12345000 8 (Ok 3)
+    ∷ loads (memory_at [] 0) rooted Supervisor 0x12345000 8 (Err (Fault 5 0x12345000 none))
     -- refusal 13, before 1
-    ∷ loads (memory_at [] 4) 0 Supervisor 0x1000 3 (Refused 13)
-    ∷ loads (memory_at [] (2 ^ 56)) 0 Supervisor 0x1000 8 (Granted 3)
-    ∷ loads (memory_at (0 ∷ []) (2 ^ 56)) 0 Supervisor 0x1000 8 (Refused 13)
-    ∷ loads (memory_at [] (2 ^ 56 + 8)) rooted Supervisor 0x1000 8 (Refused 13)
-    ∷ loads (memory_at [] 0) rooted Supervisor 0x1000 3 (Refused 1)
+    ∷ loads (memory_at [] 4) 0 Supervisor 0x1000 3 (Err (Refused Refusal.Memory))
+    ∷ loads (memory_at [] (2 ^ 56)) 0 Supervisor 0x1000 8 (Ok 3)
+    ∷ loads (memory_at (0 ∷ []) (2 ^ 56)) 0 Supervisor 0x1000 8 (Err (Refused Refusal.Memory))
+    ∷ loads (memory_at [] (2 ^ 56 + 8)) rooted Supervisor 0x1000 8 (Err (Refused Refusal.Memory))
+    ∷ loads (memory_at [] 0) rooted Supervisor 0x1000 3 (Err (Refused Refusal.Size))
     ∷ [])

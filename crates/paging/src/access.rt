@@ -1,12 +1,11 @@
 // What an access comes to.
 ghost use Rattle.std.specs.Prelude.{◌≡◌, ◌≤◌};
-ghost use Rattle.paging.specs.Memory.{memory_at};
-ghost use Rattle.paging.specs.Access.{page_fault_cause, translated, first_part, part_reached, parts_reached, reached};
+ghost use Rattle.paging.specs.Memory.{memory_of};
+ghost use Rattle.paging.specs.Access.{page_fault_cause, translated, faulted, first_part, part_reached, parts_reached, reached};
 
-use crate::memory::is_lawful;
 use crate::walk::{is_canonical, next_check, word_says};
-use crate::{Context, Found, Reached, Walked};
-use pmp::{Access, Decision, Mode, NONE};
+use crate::{Context, Found, Memory, NotGranted, WalkFault};
+use pmp::{Access, Decision, Mode, NONE, Refusal};
 use protection::Pmp;
 
 fn page_fault_cause(access: Access) -> u64
@@ -23,25 +22,32 @@ fn page_fault_cause(access: Access) -> u64
 pub fn is_translated(context: Context) -> bool
     ensures { result ≡ translated context }
 {
-    let mode = context.mode;
-    match mode {
-        Mode::User => context.satp >> 60 == 8,
-        Mode::Supervisor => context.satp >> 60 == 8,
+    match context.mode {
+        Mode::User | Mode::Supervisor => context.satp >> 60 == 8,
         Mode::Machine => false,
     }
 }
 
+// The fault of an access whose walk ends in one. The trap value is the virtual address.
+fn fault(access: Access, address: u64, walk: WalkFault) -> NotGranted
+    ensures { result ≡ faulted access address walk }
+{
+    match walk {
+        WalkFault::Page => NotGranted::Fault(page_fault_cause(access), address, NONE),
+        WalkFault::Denied(entry) => NotGranted::Fault(pmp::fault_cause(access), address, entry),
+    }
+}
+
 // An access that crosses no boundary, of any number of bytes: one check after the other, those of the table reads from level 2 down and then that of the access
-// itself. All are made at one place, so that the byte rule is compiled once, in line.
+// itself. All are made at one place, so that the byte rule is compiled once, in line. The levels are counted by hand, as a page ends the walk at any of them.
 fn reach_part(
     pmp: Pmp,
-    memory: &[u64],
-    base: u64,
+    memory: Memory<'_>,
     context: Context,
     address: u64,
     size: u64,
-) -> Reached
-    ensures { result ≡ part_reached pmp (memory_at memory.now base) context address size }
+) -> Result<u8, NotGranted>
+    ensures { result ≡ part_reached pmp (memory_of memory.entry) context address size }
 {
     let access = context.access;
     let grain = pmp.grain;
@@ -51,7 +57,7 @@ fn reach_part(
     let mut place = address;
     if is_translated(context) {
         if !is_canonical(address) {
-            return Reached::Fault(page_fault_cause(access), address, NONE);
+            return Err(fault(access, address, WalkFault::Page));
         }
         levels = 3;
         place = context.satp;
@@ -71,37 +77,28 @@ fn reach_part(
         ) {
             Decision::Granted(entry) => {
                 if levels == 0 {
-                    return Reached::Granted(entry);
+                    return Ok(entry);
                 }
                 levels -= 1;
-                match word_says(memory, base, context, address, levels, check.place) {
-                    Found::Table(next) => {
+                match word_says(memory, context, address, levels, check.place) {
+                    Ok(Found::Table(next)) => {
                         if levels == 0 {
-                            return Reached::Fault(page_fault_cause(access), address, NONE);
+                            return Err(fault(access, address, WalkFault::Page));
                         }
                         place = next;
                     }
-                    Found::Ends(end) => {
-                        match end {
-                            Walked::At(physical) => {
-                                levels = 0;
-                                place = physical;
-                            }
-                            Walked::PageFault => {
-                                return Reached::Fault(page_fault_cause(access), address, NONE);
-                            }
-                            Walked::AccessFault(denied) => {
-                                return Reached::Fault(pmp::fault_cause(access), address, denied);
-                            }
-                        }
+                    Ok(Found::Page(physical)) => {
+                        levels = 0;
+                        place = physical;
                     }
+                    Err(walk) => return Err(fault(access, address, walk)),
                 }
             }
             Decision::Fault(_, entry) => {
-                return Reached::Fault(pmp::fault_cause(access), address, entry);
+                return Err(fault(access, address, WalkFault::Denied(entry)));
             }
             Decision::Refused(_) => {
-                return Reached::Fault(pmp::fault_cause(access), address, NONE);
+                return Err(fault(access, address, WalkFault::Denied(NONE)));
             }
         }
     }
@@ -120,59 +117,50 @@ fn first_part(context: Context, address: u64, size: u64) -> u64
     }
 }
 
-// An access in its parts, of which the first has so many bytes: the first fault wins.
+// An access in its parts, of which the first has so many bytes: the first fault wins. There are two parts at most, in a loop, so that `reach_part` is
+// compiled once, in line.
 fn reach_parts(
     pmp: Pmp,
-    memory: &[u64],
-    base: u64,
+    memory: Memory<'_>,
     context: Context,
     first: u64,
     address: u64,
     size: u64,
-) -> Reached
+) -> Result<u8, NotGranted>
     requires { first ≤ size }
-    ensures { result ≡ parts_reached pmp (memory_at memory.now base) context first address size }
+    ensures { result ≡ parts_reached pmp (memory_of memory.entry) context first address size }
 {
     let mut part = first;
     let mut start = address;
     let mut left = size;
     loop {
-        match reach_part(pmp, memory, base, context, start, part) {
-            Reached::Granted(entry) => {
-                if part == left {
-                    return Reached::Granted(entry);
-                }
-                start = std::num::wrapping_add_u64(start, part);
-                left = left - part;
-                part = left;
-            }
-            Reached::Fault(cause, tval, entry) => {
-                return Reached::Fault(cause, tval, entry);
-            }
-            Reached::Refused(number) => {
-                return Reached::Refused(number);
-            }
+        let entry = reach_part(pmp, memory, context, start, part)?;
+        if part == left {
+            return Ok(entry);
         }
+        start = start.wrapping_add(part);
+        left = left - part;
+        part = left;
     }
 }
 
-// An access by page tables in a lent slice of words that stands at `base`: refusals 13 and 1, then what it comes to.
+// An access by page tables in the lent memory: refusals 13 and 1, then what it comes to, which is the entry that grants it or why it is not granted.
+#[tactic(auto, unfolding(crate::specs::Access::reached))]
 pub fn reach(
     pmp: Pmp,
-    memory: &[u64],
-    base: u64,
+    memory: Memory<'_>,
     context: Context,
     address: u64,
     size: u64,
-) -> Reached
-    ensures { result ≡ reached pmp (memory_at memory.now base) context address size }
+) -> Result<u8, NotGranted>
+    ensures { result ≡ reached pmp (memory_of memory.entry) context address size }
 {
-    if !is_lawful(memory, base) {
-        return Reached::Refused(13);
+    if !memory.is_lawful() {
+        return Err(NotGranted::Refused(Refusal::Memory));
     }
     if !pmp::is_size(size) {
-        return Reached::Refused(1);
+        return Err(NotGranted::Refused(Refusal::Size));
     }
     let first = first_part(context, address, size);
-    reach_parts(pmp, memory, base, context, first, address, size)
+    reach_parts(pmp, memory, context, first, address, size)
 }

@@ -1,8 +1,8 @@
 // What one entry of a page table (PTE) says.
-ghost use Rattle.std.specs.Prelude.{◌≡◌, ◌<◌};
+ghost use Rattle.std.specs.Prelude.{◌≡◌, ◌<◌, ◌≤◌};
 ghost use Rattle.paging.specs.Entry.{ppn, well_formed, leaf, permits, sum_allows, usable, marked, pages, leaf_says, entry_says};
 
-use crate::{Context, Found, Walked};
+use crate::{Context, Found, WalkFault};
 use pmp::{Access, Mode};
 use registers::fields::{MXR, SUM};
 
@@ -58,8 +58,7 @@ fn sum_allows(access: Access, mstatus: u64) -> bool
 {
     match access {
         Access::Fetch => false,
-        Access::Load => mstatus / SUM % 2 == 1,
-        Access::Store => mstatus / SUM % 2 == 1,
+        Access::Load | Access::Store => mstatus / SUM % 2 == 1,
     }
 }
 
@@ -77,8 +76,7 @@ fn is_marked(access: Access, pte: u64) -> bool
     ensures { result ≡ marked access pte }
 {
     match access {
-        Access::Fetch => pte / A % 2 == 1,
-        Access::Load => pte / A % 2 == 1,
+        Access::Fetch | Access::Load => pte / A % 2 == 1,
         Access::Store => (pte / A % 2 == 1) & (pte / D % 2 == 1),
     }
 }
@@ -86,7 +84,9 @@ fn is_marked(access: Access, pte: u64) -> bool
 // The pages below an entry of a level.
 pub(crate) fn pages_below(level: u64) -> u64
     requires { level < 3 }
-    ensures { result ≡ pages level }
+    ensures value { result ≡ pages level }
+    ensures some { 0 < result }
+    ensures upper_bound { result ≤ 0x40000 }
 {
     match level {
         0 => 1,
@@ -95,7 +95,7 @@ pub(crate) fn pages_below(level: u64) -> u64
     }
 }
 
-fn leaf_says(context: Context, address: u64, level: u64, pte: u64) -> Walked
+fn leaf_says(context: Context, address: u64, level: u64, pte: u64) -> Result<Found, WalkFault>
     requires { level < 3 }
     ensures { result ≡ leaf_says context address level pte }
 {
@@ -108,25 +108,29 @@ fn leaf_says(context: Context, address: u64, level: u64, pte: u64) -> Walked
         & (is_usable(mode, access, mstatus, pte)
             & ((number % below == 0) & is_marked(access, pte)))
     {
-        Walked::At(number * 4096 + address % (4096 * below))
+        Ok(Found::Page(number * 4096 + address % (4096 * below)))
     } else {
-        Walked::PageFault
+        Err(WalkFault::Page)
     }
 }
 
-pub(crate) fn entry_says(context: Context, address: u64, level: u64, pte: u64) -> Found
+#[tactic(auto, unfolding(crate::specs::Entry::entry_says))]
+pub(crate) fn entry_says(
+    context: Context,
+    address: u64,
+    level: u64,
+    pte: u64,
+) -> Result<Found, WalkFault>
     requires { level < 3 }
     ensures { result ≡ entry_says context address level pte }
 {
-    if is_well_formed(pte) {
-        if is_leaf(pte) {
-            Found::Ends(leaf_says(context, address, level, pte))
-        } else if (pte / U % 2 == 1) | ((pte / A % 2 == 1) | (pte / D % 2 == 1)) {
-            Found::Ends(Walked::PageFault)
-        } else {
-            Found::Table(page(pte))
-        }
+    if !is_well_formed(pte) {
+        Err(WalkFault::Page)
+    } else if is_leaf(pte) {
+        leaf_says(context, address, level, pte)
+    } else if (pte / U % 2 == 1) | ((pte / A % 2 == 1) | (pte / D % 2 == 1)) {
+        Err(WalkFault::Page)
     } else {
-        Found::Ends(Walked::PageFault)
+        Ok(Found::Table(page(pte)))
     }
 }

@@ -3,14 +3,20 @@
 
 mod access;
 mod entry;
-mod memory;
+mod lent;
 mod satp;
 mod walk;
 
 pub use access::{is_translated, reach};
-pub use memory::is_lawful;
-use pmp::{Access, Mode};
+use pmp::{Access, Mode, Refusal};
 pub use satp::{satp_can_hold, satp_written};
+
+// The lent memory: its words, and the physical address of the first.
+#[derive(Clone, Copy)]
+pub struct Memory<'a> {
+    pub words: &'a [u64],
+    pub base: u64,
+}
 
 // What an access asks by, which stays the same through its walk.
 #[derive(Clone, Copy)]
@@ -21,34 +27,25 @@ pub struct Context {
     pub access: Access,
 }
 
-// What an access comes to: granted with the deciding entry; a fault with its cause, trap value and deciding entry; or a refusal. Entry 16 is none.
+// Why an access is not granted: a fault with its cause, trap value and deciding entry; or a refusal. Entry 16 is none.
 #[derive(Clone, Copy)]
-pub enum Reached {
-    Granted(u8),
+pub enum NotGranted {
     Fault(u64, u64, u8),
-    Refused(u64),
+    Refused(Refusal),
 }
 
-// A word of a page table, or the entry that denied it.
-#[derive(Clone, Copy)]
-pub(crate) enum Word {
-    Read(u64),
-    Denied(u8),
-}
-
-// Where a walk ends: at a physical address, with a page fault, or with an access fault and the deciding entry.
-#[derive(Clone, Copy)]
-pub(crate) enum Walked {
-    At(u64),
-    PageFault,
-    AccessFault(u8),
-}
-
-// What an entry of a page table says: the next table, or the walk's end.
+// What an entry of a page table says: the next table, or the physical address in a page.
 #[derive(Clone, Copy)]
 pub(crate) enum Found {
     Table(u64),
-    Ends(Walked),
+    Page(u64),
+}
+
+// Why a walk reaches no physical address: a page fault, or a word of a page table that could not be read, with the entry that denied it.
+#[derive(Clone, Copy)]
+pub(crate) enum WalkFault {
+    Page,
+    Denied(u8),
 }
 
 // What the byte rule is asked.

@@ -1,11 +1,10 @@
 // The walk through the page tables, check by check.
 ghost use Rattle.std.specs.Prelude.{◌≡◌, ◌<◌, ◌≤◌};
-ghost use Rattle.paging.specs.Memory.{memory_at, word_at};
+ghost use Rattle.paging.specs.Memory.{memory_of, word_at};
 ghost use Rattle.paging.specs.Walk.{canonical, entry_address, word_says, asked, next_check};
 
 use crate::entry::{PAGE_NUMBERS, entry_says, pages_below};
-use crate::memory::word_at;
-use crate::{Check, Context, Found, Walked, Word};
+use crate::{Check, Context, Found, Memory, WalkFault};
 use pmp::{Access, Mode};
 
 pub(crate) fn is_canonical(address: u64) -> bool
@@ -56,18 +55,15 @@ pub(crate) fn next_check(
 
 // What the entry at a physical address says.
 pub(crate) fn word_says(
-    memory: &[u64],
-    base: u64,
+    memory: Memory<'_>,
     context: Context,
     address: u64,
     level: u64,
     place: u64,
-) -> Found
+) -> Result<Found, WalkFault>
     requires { level < 3 }
-    ensures { result ≡ word_says context address level (word_at (memory_at memory.now base) place) }
+    ensures { result ≡ word_says context address level (word_at (memory_of memory.entry) place) }
 {
-    match word_at(memory, base, place) {
-        Word::Read(pte) => entry_says(context, address, level, pte),
-        Word::Denied(entry) => Found::Ends(Walked::AccessFault(entry)),
-    }
+    let pte = memory.word_at(place)?;
+    entry_says(context, address, level, pte)
 }

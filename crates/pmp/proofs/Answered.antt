@@ -13,6 +13,7 @@ use Rattle.pmp.specs.declared.Mode.TheVariants.{User, Supervisor, Machine}
 use Rattle.pmp.specs.declared.Access.{Access}
 use Rattle.pmp.specs.declared.Decision.{Decision}
 use Rattle.pmp.specs.declared.Decision.TheVariants.{Granted, Fault, Refused}
+use Rattle.pmp.specs.declared.Refusal.{Refusal}
 use Rattle.pmp.specs.declared.Span.{Span}
 use Rattle.pmp.specs.Number.{fault_cause}
 use Rattle.pmp.specs.Search.{any_byte, every_byte}
@@ -69,6 +70,6 @@ rule_answers spans cfgs mode access address size =
     (Fault (fault_cause access) i) (λ v. by-entry mode access (get_or cfgs i 0) i (omega arith)) (λ v. faults i (omega arith)))
     (λ u. by-none mode access))
 
-pub unrefused : (access : Access) (d : Decision) (number : ℕ) → GrantOrFault access d → d ≡ Refused number → ⊥
-unrefused access _ number (grants entry h) e = let z : ◌≡◌ {A = ℕ} 0 1 = cc in omega arith
-unrefused access _ number (faults entry h) e = let z : ◌≡◌ {A = ℕ} 0 1 = cc in omega arith
+pub unrefused : (access : Access) (d : Decision) (refusal : Refusal) → GrantOrFault access d → d ≡ Refused refusal → ⊥
+unrefused access _ refusal (grants entry h) e = let z : ◌≡◌ {A = ℕ} 0 1 = cc in omega arith
+unrefused access _ refusal (faults entry h) e = let z : ◌≡◌ {A = ℕ} 0 1 = cc in omega arith

@@ -16,7 +16,7 @@ use Rattle.pmp.specs.Entry.{top, trailing_ones, napot, span_of, contains}
 use Rattle.pmp.proofs.SearchLaws.{any_none, every_all, every_passes}
 
 -- two spans with equal ends are equal
-pub span_same : {a b c d : ℕ} → a ≡ c → b ≡ d → ◌≡◌ {A = Span} (record { low = a; high = b }) (record { low = c; high = d })
+span_same : {a b c d : ℕ} → a ≡ c → b ≡ d → ◌≡◌ {A = Span} (record { low = a; high = b }) (record { low = c; high = d })
 span_same p q = λ i. record { low = p i; high = q i }
 
 -- ---- the ones at the low end of a word
@@ -52,9 +52,6 @@ ones_room (suc n) word = ones_room-step (word % 2) word (trailing_ones n (word /
 pub power_fits : (t : ℕ) → t < 64 → 1 * 2 ^ t % 2 ^ 64 ≡ 2 ^ t
 power_fits t h = let fits : 2 ^ t < 2 ^ 64 = pow-lt h in omega arith
 
-pub power_mono : (s t : ℕ) → s ≤ t → 2 ^ s ≤ 2 ^ t
-power_mono s t h = pow_mono h
-
 pub power_room : (addr t : ℕ) → t ≡ trailing_ones 64 addr → 2 ^ t ≤ addr + 1
 power_room addr t e = rw e (ones_room 64 addr)
 
@@ -62,41 +59,28 @@ module _ (addr p q l : ℕ) (same : q ≡ p) (pos : 0 < p) (room : p ≤ addr + 
   first_byte : l ≡ min (4 * (addr - (p - 1))) top
   first_byte = omega arith
 
-  end_inside : l + q * 8 < top → l + q * 8 ≡ min (4 * (addr - (p - 1)) + p * 8) top
-  end_inside h = omega arith
-
-  end_cut : top ≤ l + q * 8 → top ≡ min (4 * (addr - (p - 1)) + p * 8) top
-  end_cut h = omega arith
+  end_small : min (l + q * 8) top ≡ min (4 * (addr - (p - 1)) + p * 8) top
+  end_small = omega arith
 
   end_large : 2 ^ 53 ≤ p → top ≡ min (4 * (addr - (p - 1)) + p * 8) top
   end_large h = omega arith
 
 module _ (addr t q l : ℕ) (same : q ≡ 2 ^ t) (room : 2 ^ t ≤ addr + 1) (low : l ≡ min (4 * (addr - (q - 1))) top) where
-  pub napot_inside : l + q * 8 < top → record { low = l; high = l + q * 8 } ≡ napot addr t
-  napot_inside h =
-      rw (pow-add 2 t 3) (span_same (first_byte addr (2 ^ t) q l same (pow_pos t) room low) (end_inside addr (2 ^ t) q l same (pow_pos t) room low h))
-
-  pub napot-cut : top ≤ l + q * 8 → record { low = l; high = top } ≡ napot addr t
-  napot-cut h =
-      rw (pow-add 2 t 3) (span_same (first_byte addr (2 ^ t) q l same (pow_pos t) room low) (end_cut addr (2 ^ t) q l same (pow_pos t) room low h))
+  pub napot_small : record { low = l; high = min (l + q * 8) top } ≡ napot addr t
+  napot_small =
+      rw (pow-add 2 t 3) (span_same (first_byte addr (2 ^ t) q l same (pow_pos t) room low) (end_small addr (2 ^ t) q l same (pow_pos t) room low))
 
   pub napot_large : 53 ≤ t → record { low = l; high = top } ≡ napot addr t
   napot_large h =
       rw (pow-add 2 t 3)
       (span_same (first_byte addr (2 ^ t) q l same (pow_pos t) room low)
-      (end_large addr (2 ^ t) q l same (pow_pos t) room low (power_mono 53 t h)))
+      (end_large addr (2 ^ t) q l same (pow_pos t) room low (pow_mono h)))
 
 -- all ones: the whole of memory
 pub napot-whole : (addr t : ℕ) → 64 ≤ t → addr < 2 ^ 64 → record { low = 0; high = top } ≡ napot addr t
 napot-whole addr t h fits =
-    let large : 2 ^ 64 ≤ 2 ^ t = power_mono 64 t h in
+    let large : 2 ^ 64 ≤ 2 ^ t = pow_mono h in
     rw (pow-add 2 t 3) (span_same (omega arith) (omega arith))
-
--- ---- the A field
-
--- of the four values of the field the last is left
-pub field_three : (a : ℕ) → (a ≡ 0 → ⊥) → (a ≡ 1 → ⊥) → (a ≡ 2 → ⊥) → a < 4 → a ≡ 3
-field_three a off tor na4 h = omega arith
 
 -- ---- where a span lies
 

@@ -1,8 +1,8 @@
 -- What address registers read by the grain, as a program computes it; with a grain of 4 bytes it is what is stored. Assumes nothing.
 use mathlib.Core.Path.{◌≡◌, refl, sym, ap, ◌∙◌}
 use mathlib.Core.Bool.{Bool, true, false, cond}
-use Prim.Native.Nat.{ℕ, zero, suc, ◌+◌, ◌-◌, ◌*◌, ◌/◌, ◌%◌, ◌^◌, ◌≤◌, ◌<◌}
-use native.Mathlib.Nat.{pow-suc, div-mul-le_self, div-add-mod'}
+use Prim.Native.Nat.{ℕ, zero, suc, ◌+◌, ◌-◌, ◌*◌, ◌/◌, ◌%◌, ◌^◌, ◌<◌}
+use native.Mathlib.Nat.{pow-suc, div-add-mod'}
 use lib.Bits.{bit_and, bit_or, and_mask, or_add_and}
 use native.Mathlib.Omega.{arith}
 use lib.Dec.{eqb, ltb}
@@ -10,9 +10,6 @@ use lib.Pow.{pow_pos}
 use borrow.Author.Tests.{lt-ltb, ltb-true}
 use Rattle.bits.proofs.Conjunction.{by_test}
 use Rattle.pmp.specs.Entry.{span_of, legal_grain, low_zeros, low_ones, address_read, address_matched, span_read}
-
-pub zeros_fit : (n word : ℕ) → word < 2 ^ 64 → word / 2 ^ n * 2 ^ n % 2 ^ 64 ≡ low_zeros n word
-zeros_fit n word h = let l : word / 2 ^ n * 2 ^ n ≤ word = div-mul-le_self word (2 ^ n) in omega arith
 
 -- half of n ones is one fewer
 half_ones : (n : ℕ) → (2 ^ n - 1) / 2 ≡ 2 ^ (n - 1) - 1

@@ -1,5 +1,6 @@
 -- Laws of the definitions, which the functions' proofs and other crates cite.
 pub mod SearchLaws
+pub mod FoundLaws
 pub mod EntryLaws
 pub mod GrainLaws
 pub mod GrainBits

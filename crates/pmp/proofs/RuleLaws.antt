@@ -1,23 +1,27 @@
 -- Laws of the byte rule, by cases. Assumes nothing.
-use mathlib.Core.Path.{◌≡◌, sym, ap, ◌∙◌}
-use mathlib.Core.Bool.{Bool, true, false, cond, ◌||◌}
+use mathlib.Core.Path.{◌≡◌, ap, ◌∙◌}
+use mathlib.Core.Bool.{true, false, cond, ◌||◌}
 use mathlib.Core.Logic.{⊎_elim}
 use mathlib.Core.List.{List}
 use Prim.Native.Nat.{ℕ, ◌+◌, ◌-◌, ◌≤◌, ◌<◌}
 use native.Mathlib.Omega.{arith}
-use lib.Dec.{leb, eqb}
-use lib.ListN.{get_or}
-use borrow.Author.Tests.{lt-ltb, le-ltb, le-leb, lt-leb, eqb-true}
+use Rattle.std.proofs.Common.{Some, None}
+use Rattle.std.proofs.lemmas.Option.{cond_some}
+use lib.Dec.{leb, ltb, eqb}
+use borrow.Author.Tests.{le-leb, lt-leb, eqb-true}
 use Rattle.bits.proofs.Conjunction.{one_of}
 use Rattle.pmp.specs.declared.Mode.{Mode}
 use Rattle.pmp.specs.declared.Access.{Access}
 use Rattle.pmp.specs.declared.Span.{Span}
-use Rattle.pmp.specs.declared.Decision.TheVariants.{Fault, Refused}
+use Rattle.pmp.specs.declared.Found.{Found}
+use Rattle.pmp.specs.declared.Decision.TheVariants.{Fault}
 use Rattle.pmp.specs.Number.{fault_cause}
 use Rattle.pmp.specs.Search.{lowest, any_byte, every_byte}
-use Rattle.pmp.specs.Entry.{top, entry_span, contains, matches}
+use Rattle.pmp.specs.Entry.{top, entries, entry_span, contains}
 use Rattle.pmp.specs.Rule.{none, entry_decides, none_decides, lowest_match, match_decides, byte_rule, is_size, checked}
+use Rattle.pmp.specs.Found.{found}
 use Rattle.pmp.proofs.SearchLaws.{any_none, any_some}
+use Rattle.pmp.proofs.FoundLaws.{unfound}
 
 -- an access that ends at or below the limit has no byte at or above it, and any other of at least one byte has
 pub none-beyond : (limit size address : ℕ) → address + size ≤ limit → any_byte (leb limit) size address ≡ false
@@ -28,31 +32,24 @@ some-beyond limit size address p h =
     any_some (leb limit) size address (address + size - 1) (omega arith) (omega arith) (le-leb limit (address + size - 1) (omega arith))
 
 module _ (spans : ℕ → Span) (cfgs : List ℕ) (mode : Mode) (access : Access) (address size : ℕ) where
-  -- entry i decides, and whether it matches all bytes picks how
-  pub match_decides_lem : (i : ℕ) (all : Bool) → i < 16 → every_byte (matches spans i) size address ≡ all
-      → match_decides spans cfgs mode access address size i ≡ cond all (entry_decides mode access (get_or cfgs i 0) i) (Fault (fault_cause access) i)
-  match_decides_lem i all h e = rw (lt-ltb i 16 h, e)
-
-  pub none_decides_lem : (i : ℕ) → 16 ≤ i → match_decides spans cfgs mode access address size i ≡ none_decides mode access
-  none_decides_lem i h = rw (le-ltb i 16 h)
-
-  -- the same, of what a program finds: the lowest match i and its span s
-  pub found_decides : (i : ℕ) (s : Span) (all : Bool) → i ≡ lowest_match spans address size → i < 16
-      → s ≡ spans i → every_byte (contains s) size address ≡ all
-      → cond all (entry_decides mode access (get_or cfgs i 0) i) (Fault (fault_cause access) i)
-      ≡ match_decides spans cfgs mode access address size (lowest_match spans address size)
-  found_decides i s all e h w m =
-      rw (← e) (sym (match_decides_lem i all h (sym (ap (λ (r : Span). every_byte (contains r) size address) w) ∙ m)))
-
-  pub unfound_decides : (i : ℕ) → i ≡ lowest_match spans address size → 16 ≤ i
-      → none_decides mode access ≡ match_decides spans cfgs mode access address size (lowest_match spans address size)
-  unfound_decides i e h = rw (← e) (sym (none_decides_lem i h))
-
   -- below the end of memory the lowest matching entry decides, and past it the access faults
   pub inside_decides : address + size ≤ top
       → byte_rule spans cfgs mode access address size ≡ match_decides spans cfgs mode access address size (lowest_match spans address size)
   unfolding byte_rule
   inside_decides h = rw (none-beyond top size address h)
+
+  -- it is told with its byte and its bytes
+  pub found_decides : (f : Found) → found spans cfgs (lowest_match spans address size) ≡ Some f → address + size ≤ top
+      → byte_rule spans cfgs mode access address size
+      ≡ cond (every_byte (contains f.span) size address) (entry_decides mode access f.cfg f.entry) (Fault (fault_cause access) f.entry)
+  found_decides f e h =
+      let w = cond_some (ltb (lowest_match spans address size) entries) _ f e in
+      inside_decides h
+      ∙ rw w.0 (ap (λ (g : Found). cond (every_byte (contains g.span) size address) (entry_decides mode access g.cfg g.entry) (Fault (fault_cause access) g.entry)) w.1)
+
+  pub unfound_decides : found spans cfgs (lowest_match spans address size) ≡ None → address + size ≤ top
+      → byte_rule spans cfgs mode access address size ≡ none_decides mode access
+  unfound_decides e h = inside_decides h ∙ rw (unfound spans cfgs (lowest_match spans address size) e)
 
   pub beyond-faults : 0 < size → top < address + size → byte_rule spans cfgs mode access address size ≡ Fault (fault_cause access) none
   unfolding byte_rule
@@ -62,6 +59,9 @@ module _ (spans : ℕ → Span) (cfgs : List ℕ) (mode : Mode) (access : Access
   pub empty_decides : size ≡ 0 → byte_rule spans cfgs mode access address size ≡ none_decides mode access
   unfolding byte_rule lowest_match lowest any_byte
   empty_decides e = rw e
+
+-- the cases of the byte rule
+pub ruleset rule_cases = (empty_decides, beyond-faults, found_decides, unfound_decides)
 
 -- a size is at least 1 and at most 8
 pub size_bounds : (size : ℕ) → is_size size ≡ true → (0 < size) × (size ≤ 8)
@@ -76,10 +76,6 @@ size_bounds n e =
 -- ---- the decision on an access as a step asks for it
 
 module _ (g : ℕ) (cfgs addrs : List ℕ) (mode : Mode) (access : Access) (address size : ℕ) where
-  pub checked_refused : is_size size ≡ false → checked g cfgs addrs mode access address size ≡ Refused 1
-  unfolding checked
-  checked_refused e = rw e
-
   pub checked_rule : is_size size ≡ true
       → checked g cfgs addrs mode access address size ≡ byte_rule (entry_span g cfgs addrs) cfgs mode access address size
   unfolding checked

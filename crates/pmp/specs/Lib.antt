@@ -3,3 +3,4 @@ pub mod Number
 pub mod Search
 pub mod Entry
 pub mod Rule
+pub mod Found

@@ -6,6 +6,7 @@ use Rattle.pmp.specs.declared.Access.{Access}
 use Rattle.pmp.specs.declared.Access.TheVariants.{Fetch, Load, Store}
 use Rattle.pmp.specs.declared.Decision.{Decision}
 use Rattle.pmp.specs.declared.Decision.TheVariants.{Granted, Fault, Refused}
+use Rattle.pmp.specs.declared.Refusal.TheVariants.{Size}
 use Rattle.pmp.specs.declared.Span.{Span}
 use Rattle.pmp.specs.Number.{fault_cause}
 use Rattle.pmp.specs.Search.{lowest, any_byte, every_byte, least}
@@ -66,7 +67,7 @@ is_size size = eqb size 1 || (eqb size 2 || (eqb size 4 || eqb size 8))
 -- the decision on an access as a step asks for it: refusal 1, then the byte rule on the registers
 unfoldable pub checked : ℕ → List ℕ → List ℕ → Mode → Access → ℕ → ℕ → Decision
 checked g cfgs addrs mode access address size =
-    cond (is_size size) (byte_rule (entry_span g cfgs addrs) cfgs mode access address size) (Refused 1)
+    cond (is_size size) (byte_rule (entry_span g cfgs addrs) cfgs mode access address size) (Refused Size)
 
 -- ---- by the owners of the bytes
 

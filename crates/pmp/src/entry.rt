@@ -8,6 +8,7 @@ use crate::{Span, TOP};
 const TOP_WORD: u64 = 0x40000000000000;
 
 // The number of ones at the low end of a word.
+#[tactic(auto, using(crate::proofs::EntryLaws::ones_zeros))]
 fn trailing_ones(word: u64) -> u32
     ensures { result ≡ trailing_ones 64 word }
 {
@@ -18,7 +19,7 @@ fn trailing_ones(word: u64) -> u32
 fn word_start(word: u64) -> u64
     ensures { result ≡ min (4 * word) top }
 {
-    if word < TOP_WORD { word * 4 } else { TOP }
+    word.min(TOP_WORD) * 4
 }
 
 // The naturally aligned power of two bytes that an address register names. Its size is tested before it is formed, so that no sum wraps.
@@ -26,25 +27,21 @@ pub(crate) fn napot_span(addr: u64) -> Span
     ensures { result ≡ napot addr (trailing_ones 64 addr) }
 {
     let t = trailing_ones(addr);
-    if t < 64 {
-        let power = 1u64 << t;
-        let low = word_start(addr - (power - 1));
-        if t < 53 {
-            let high = low + power * 8;
-            if high < TOP {
-                Span { low, high }
-            } else {
-                Span { low, high: TOP }
-            }
-        } else {
-            Span { low, high: TOP }
-        }
-    } else {
-        Span { low: 0, high: TOP }
+    if 64 <= t {
+        return Span { low: 0, high: TOP };
     }
+    let power = 1u64 << t;
+    let low = word_start(addr - (power - 1));
+    let high = if t < 53 {
+        (low + power * 8).min(TOP)
+    } else {
+        TOP
+    };
+    Span { low, high }
 }
 
 // The bytes of an entry, from its configuration byte, the address by which it matches and TOR's lower bound.
+#[tactic(auto, unfolding(crate::specs::Entry::span_of))]
 fn span_of(cfg: u8, addr: u64, before: u64) -> Span
     ensures { result ≡ span_of (field_a cfg) addr before }
 {
@@ -56,14 +53,10 @@ fn span_of(cfg: u8, addr: u64, before: u64) -> Span
             high: word_start(addr),
         },
         2 => {
-            if addr < TOP_WORD {
-                let low = addr * 4;
-                Span { low, high: low + 4 }
-            } else {
-                Span {
-                    low: TOP,
-                    high: TOP,
-                }
+            let low = word_start(addr);
+            Span {
+                low,
+                high: (low + 4).min(TOP),
             }
         }
         _ => napot_span(addr),
@@ -94,6 +87,7 @@ pub(crate) fn zeros_read(grain: u64, addr: u64) -> u64
 }
 
 // What an address register reads where A is 2 or 3: its low G-1 bits are ones; with G of 0 or 1 it reads as stored.
+#[tactic(auto, using(crate::proofs::EntryLaws::power_fits, crate::proofs::GrainLaws::ones_put))]
 pub(crate) fn ones_read(grain: u64, addr: u64) -> u64
     ensures { result ≡ low_ones (legal_grain grain - 1) addr }
 {
@@ -102,6 +96,7 @@ pub(crate) fn ones_read(grain: u64, addr: u64) -> u64
 }
 
 // What an address register reads, by the A field of its entry.
+#[tactic(auto, unfolding(crate::specs::Entry::address_read))]
 pub fn address_read(grain: u64, cfg: u8, addr: u64) -> u64
     ensures { result ≡ address_read grain (field_a cfg) addr }
 {

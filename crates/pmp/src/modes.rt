@@ -1,15 +1,8 @@
 // Modes by their numbers.
 ghost use Rattle.std.specs.Prelude.{◌≡◌};
-ghost use Rattle.pmp.specs.Number.{is_mode, mode_of};
+ghost use Rattle.pmp.specs.Number.{mode_of, ReadsMode};
 
 use crate::Mode;
-
-// Whether a number is that of a mode.
-pub fn is_mode(number: u64) -> bool
-    ensures { result ≡ is_mode number }
-{
-    (number == 0) | ((number == 1) | (number == 3))
-}
 
 // The mode of a number: 0 is U, 1 is S, and any other M.
 pub fn mode_of(number: u64) -> Mode
@@ -19,5 +12,25 @@ pub fn mode_of(number: u64) -> Mode
         0 => Mode::User,
         1 => Mode::Supervisor,
         _ => Mode::Machine,
+    }
+}
+
+// A number that is that of no mode.
+#[derive(Clone, Copy, Debug, PartialEq, Eq)]
+pub struct UnknownMode(pub u64);
+
+// The mode of a number that is that of one.
+impl TryFrom<u64> for Mode {
+    type Error = UnknownMode;
+
+    ghost try_from_gives = { ReadsMode };
+
+    fn try_from(number: u64) -> Result<Mode, UnknownMode> {
+        match number {
+            0 => Ok(Mode::User),
+            1 => Ok(Mode::Supervisor),
+            3 => Ok(Mode::Machine),
+            _ => Err(UnknownMode(number)),
+        }
     }
 }

@@ -8,7 +8,7 @@ ghost use Rattle.pmp.specs.Rule.{permission, by_permission, entry_decides, none_
 
 use crate::entry::is_locked;
 use crate::search::{contains_all, lowest_match};
-use crate::{Access, Decision, Mode, NONE, Span, TOP};
+use crate::{Access, Decision, Found, Mode, NONE, Refusal, TOP};
 
 // The exception's cause where an access faults.
 pub fn fault_cause(access: Access) -> u64
@@ -48,8 +48,7 @@ fn entry_decides(mode: Mode, access: Access, cfg: u8, entry: u8) -> Decision
     ensures { result ≡ entry_decides mode access cfg entry }
 {
     match mode {
-        Mode::User => permission_decides(access, cfg, entry),
-        Mode::Supervisor => permission_decides(access, cfg, entry),
+        Mode::User | Mode::Supervisor => permission_decides(access, cfg, entry),
         Mode::Machine => {
             if is_locked(cfg) {
                 permission_decides(access, cfg, entry)
@@ -65,8 +64,7 @@ fn none_decides(mode: Mode, access: Access) -> Decision
     ensures { result ≡ none_decides mode access }
 {
     match mode {
-        Mode::User => Decision::Fault(fault_cause(access), NONE),
-        Mode::Supervisor => Decision::Fault(fault_cause(access), NONE),
+        Mode::User | Mode::Supervisor => Decision::Fault(fault_cause(access), NONE),
         Mode::Machine => Decision::Granted(NONE),
     }
 }
@@ -84,22 +82,14 @@ pub fn owner_decides(cfgs: [u8; 16], mode: Mode, access: Access, owner: u64) -> 
 }
 
 // What the lowest entry that matches any byte decides: it must match all.
-fn match_decides(
-    lowest: u8,
-    cfg: u8,
-    span: Span,
-    mode: Mode,
-    access: Access,
-    address: u64,
-    size: u64,
-) -> Decision
+fn match_decides(lowest: Found, mode: Mode, access: Access, address: u64, size: u64) -> Decision
     requires { (0 < size) × (address + size ≤ top) }
-    ensures { result ≡ cond (every_byte (contains span) size address) (entry_decides mode access cfg lowest) (Fault (fault_cause access) lowest) }
+    ensures { result ≡ cond (every_byte (contains lowest.span) size address) (entry_decides mode access lowest.cfg lowest.entry) (Fault (fault_cause access) lowest.entry) }
 {
-    if contains_all(span, address, size) {
-        entry_decides(mode, access, cfg, lowest)
+    if contains_all(lowest.span, address, size) {
+        entry_decides(mode, access, lowest.cfg, lowest.entry)
     } else {
-        Decision::Fault(fault_cause(access), lowest)
+        Decision::Fault(fault_cause(access), lowest.entry)
     }
 }
 
@@ -107,17 +97,12 @@ fn match_decides(
 pub fn is_size(size: u64) -> bool
     ensures { result ≡ is_size size }
 {
-    match size {
-        1 => true,
-        2 => true,
-        4 => true,
-        8 => true,
-        _ => false,
-    }
+    matches!(size, 1 | 2 | 4 | 8)
 }
 
 // The decision of the entries on an access of any number of bytes from `address` on, in the effective mode. An access past the end of memory faults by no
-// entry, and none decides on one of no bytes.
+// entry, and none decides on one of no bytes. The arrays are passed by value and apart, as 01 asks.
+#[tactic(auto, using(crate::proofs::RuleLaws::rule_cases))]
 pub fn byte_rule(
     grain: u64,
     cfgs: [u8; 16],
@@ -138,22 +123,14 @@ pub fn byte_rule(
     if TOP - size < address {
         return Decision::Fault(fault_cause(access), NONE);
     }
-    let found = lowest_match(grain, cfgs, addrs, address, size);
-    if 16 <= found.entry {
-        return none_decides(mode, access);
+    match lowest_match(grain, cfgs, addrs, address, size) {
+        Some(found) => match_decides(found, mode, access, address, size),
+        None => none_decides(mode, access),
     }
-    match_decides(
-        found.entry as u8,
-        found.cfg,
-        found.span,
-        mode,
-        access,
-        address,
-        size,
-    )
 }
 
 // The same on an access of a size that a step can ask for, and refusal 1 on any other.
+#[tactic(auto, unfolding(crate::specs::Rule::checked))]
 pub fn check(
     grain: u64,
     cfgs: [u8; 16],
@@ -168,6 +145,6 @@ pub fn check(
     if is_size(size) {
         byte_rule(grain, cfgs, addrs, mode, access, address, size)
     } else {
-        Decision::Refused(1)
+        Decision::Refused(Refusal::Size)
     }
 }

@@ -1,113 +1,83 @@
 // The lowest entry that matches any byte of an access, and whether it matches all.
-ghost use Rattle.std.specs.Prelude.{◌≡◌, true, false, ◌&&◌, ltb, ◌+◌, ◌≤◌, ◌<◌, get_or};
+ghost use Rattle.std.specs.Prelude.{◌≡◌, ◌+◌, ◌≤◌, ◌<◌};
 ghost use Rattle.pmp.specs.Search.{every_byte};
 ghost use Rattle.pmp.specs.Entry.{top, span_read, field_a, entry_span, contains};
 ghost use Rattle.pmp.specs.Rule.{lowest_match};
+ghost use Rattle.pmp.specs.Found.{meeting, found};
 
 use crate::entry::{contains, entry_span, napot_span, ones_read, zeros_read};
 use crate::{Found, Span};
 
-// The bytes of an entry, where some of those from its first to its last are the access's too.
-#[derive(Clone, Copy)]
-struct Overlap {
-    some: bool,
-    span: Span,
-}
-
-fn apart() -> Overlap
-    ensures { result.some ≡ false }
-{
-    Overlap {
-        some: false,
-        span: Span { low: 0, high: 0 },
-    }
-}
-
-// TOR and NA4 are compared by words, so that their bytes are formed only where they are needed.
-fn overlapping(grain: u64, cfg: u8, addr: u64, before: u64, address: u64, size: u64) -> Overlap
+// The bytes of an entry, where some of those from its first to its last are the access's too. TOR and NA4 are compared by words, so that their bytes are
+// formed only where they are needed.
+#[tactic(auto, using(crate::proofs::FoundLaws::meeting_cases))]
+fn overlapping(grain: u64, cfg: u8, addr: u64, before: u64, address: u64, size: u64) -> Option<Span>
     requires { (0 < size) × (address + size ≤ top) }
-    ensures some_value { result.some ≡ (ltb address (span_read grain (field_a cfg) addr before).high && ltb (span_read grain (field_a cfg) addr before).low (address + size)) }
-    ensures span_value { result.some ≡ true → result.span ≡ span_read grain (field_a cfg) addr before }
+    ensures { result ≡ meeting (span_read grain (field_a cfg) addr before) address size }
 {
     let first = address / 4;
     let end = (address + size + 3) / 4;
-    let a = cfg / 8 % 4;
-    if a < 2 {
-        if a == 0 {
-            return apart();
+    match cfg / 8 % 4 {
+        0 => None,
+        1 => {
+            if zeros_read(grain, addr) <= first || end <= zeros_read(grain, before) {
+                None
+            } else {
+                Some(entry_span(grain, cfg, addr, before))
+            }
         }
-        if zeros_read(grain, addr) <= first {
-            return apart();
+        2 => {
+            if addr < first || end <= addr {
+                None
+            } else {
+                Some(entry_span(grain, cfg, addr, before))
+            }
         }
-        if end <= zeros_read(grain, before) {
-            return apart();
+        _ => {
+            let span = napot_span(ones_read(grain, addr));
+            let meets = (address < span.high) & (span.low < address + size);
+            meets.then_some(span)
         }
-        return Overlap {
-            some: true,
-            span: entry_span(grain, cfg, addr, before),
-        };
-    }
-    if a == 2 {
-        if addr < first {
-            return apart();
-        }
-        if end <= addr {
-            return apart();
-        }
-        return Overlap {
-            some: true,
-            span: entry_span(grain, cfg, addr, before),
-        };
-    }
-    let span = napot_span(ones_read(grain, addr));
-    Overlap {
-        some: (address < span.high) & (span.low < address + size),
-        span,
     }
 }
 
 // The lowest entry that matches any byte of the access. It is told with its byte and its span, so that neither is looked up again.
+#[tactic(auto, unfolding(crate::specs::Rule::lowest_match), using(crate::proofs::FoundLaws::found_none, crate::proofs::SearchLaws::lowest_end))]
 pub(crate) fn lowest_match(
     grain: u64,
     cfgs: [u8; 16],
     addrs: [u64; 16],
     address: u64,
     size: u64,
-) -> Found
+) -> Option<Found>
     requires { (0 < size) × (address + size ≤ top) }
-    ensures result_value { result.entry ≡ lowest_match (entry_span grain cfgs addrs) address size }
-    ensures cfg_value { result.entry < 16 → (result.cfg ≡ get_or cfgs result.entry 0) × (result.span ≡ entry_span grain cfgs addrs result.entry) }
+    ensures { result ≡ found (entry_span grain cfgs addrs) cfgs (lowest_match (entry_span grain cfgs addrs) address size) }
 {
-    let mut entry = 0;
     let mut before = 0;
-    'search: loop {
-        if entry == 16 {
-            break 'search Found {
-                entry: 16,
-                cfg: 0,
-                span: Span { low: 0, high: 0 },
-            };
-        }
-        let addr = addrs[entry];
-        let cfg = cfgs[entry];
-        // Where no byte of the access can be the entry's, none is looked at.
-        let overlap = overlapping(grain, cfg, addr, before, address, size);
-        if overlap.some {
-            let span = overlap.span;
-            let mut byte = 0;
-            while byte < size {
-                if contains(span, address + byte) {
-                    break 'search Found { entry, cfg, span };
+    'search: {
+        for entry in 0..16 {
+            let addr = addrs[entry];
+            let cfg = cfgs[entry];
+            // Where no byte of the access can be the entry's, none is looked at. The loop over the bytes is 01's, and stays one.
+            if let Some(span) = overlapping(grain, cfg, addr, before, address, size) {
+                for byte in 0..size {
+                    if contains(span, address + byte) {
+                        break 'search Some(Found {
+                            entry: entry as u8,
+                            cfg,
+                            span,
+                        });
+                    }
                 }
-                byte += 1;
             }
+            before = addr;
         }
-        before = addr;
-        entry += 1;
+        None
     }
 }
 
 // Whether every byte of the access lies in the span. A span has no gap, so its ends tell.
+#[tactic(auto, using(crate::proofs::EntryLaws::contains_every))]
 pub(crate) fn contains_all(span: Span, address: u64, size: u64) -> bool
     requires { (0 < size) × (address + size ≤ top) }
     ensures { result ≡ every_byte (contains span) size address }

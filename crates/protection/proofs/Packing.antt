@@ -38,7 +38,7 @@ pub high_back : (low high : ℕ) → high < 2 ^ 64 → packed (drop 8 (configs_o
 unfolding configs_of
 high_back low high h = rw (drop_at (unpacked 8 low) (unpacked 8 high) 8 (length-unpacked 8 low)) (packed-unpacked 8 high h)
 
-below-take : (n : ℕ) (l : List ℕ) → ((i : ℕ) → get_or l i 0 < 256) → (i : ℕ) → get_or (take n l) i 0 < 256
+pub below-take : (n : ℕ) (l : List ℕ) → ((i : ℕ) → get_or l i 0 < 256) → (i : ℕ) → get_or (take n l) i 0 < 256
 below-take zero l h i = omega arith
 below-take (suc n) [] h i = omega arith
 below-take (suc n) (x ∷ l) h zero = h 0

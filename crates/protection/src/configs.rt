@@ -1,44 +1,24 @@
-// The sixteen configuration bytes of the entries as the two words pmpcfg0 and pmpcfg2, the first byte lowest.
-ghost use Rattle.std.specs.Prelude.{◌≡◌, ◌%◌, ◌≤◌, ◌<◌, take, drop};
+// The sixteen configuration bytes of the entries as the two words pmpcfg0 and pmpcfg2, the first byte lowest. The bytes are named or copied one by one, not by
+// `copy_from_slice`: that compiles to a test of which way to copy, and to copies of whole registers around it.
+ghost use Rattle.std.specs.Prelude.{◌≡◌, ◌≤◌, take, drop};
 ghost use Rattle.std.proofs.lemmas.List.Edits.{sets};
 ghost use Rattle.protection.specs.Configs.{packed, unpacked, configs_of};
 
-fn widened(byte: u8) -> u64
-    ensures { (result ≡ byte) × (result < 256) }
-{
-    byte as u64
-}
-
-pub(crate) fn lowest_byte(word: u64) -> u8
-    ensures { result ≡ word % 256 }
-{
-    (word % 256) as u8
-}
-
-// The word of the eight bytes that start at one of them.
-fn pack(cfgs: [u8; 16], start: usize) -> u64
-    requires { start ≤ 8 }
-    ensures { result ≡ packed (take 8 (drop start cfgs)) }
-{
-    let mut word: u64 = 0;
-    let mut i: usize = 8;
-    while 0 < i {
-        i -= 1;
-        word = word * 256 + widened(cfgs[start + i]);
-    }
-    word
-}
-
+// Two registers of the architecture, each with its own bytes by number: one function over the half would choose them by an index.
 pub fn pmpcfg0(cfgs: [u8; 16]) -> u64
     ensures { result ≡ packed (take 8 cfgs) }
 {
-    pack(cfgs, 0)
+    u64::from_le_bytes([
+        cfgs[0], cfgs[1], cfgs[2], cfgs[3], cfgs[4], cfgs[5], cfgs[6], cfgs[7],
+    ])
 }
 
 pub fn pmpcfg2(cfgs: [u8; 16]) -> u64
     ensures { result ≡ packed (drop 8 cfgs) }
 {
-    pack(cfgs, 8)
+    u64::from_le_bytes([
+        cfgs[8], cfgs[9], cfgs[10], cfgs[11], cfgs[12], cfgs[13], cfgs[14], cfgs[15],
+    ])
 }
 
 // The bytes with eight of them replaced by those of a word.
@@ -47,12 +27,8 @@ fn unpack(given: [u8; 16], start: usize, word: u64) -> [u8; 16]
     ensures { result ≡ sets given start (unpacked 8 word) }
 {
     let mut cfgs = given;
-    let mut rest = word;
-    let mut i: usize = 0;
-    while i < 8 {
-        cfgs[start + i] = lowest_byte(rest);
-        rest = rest / 256;
-        i += 1;
+    for (i, byte) in word.to_le_bytes().iter().enumerate() {
+        cfgs[start + i] = *byte;
     }
     cfgs
 }

@@ -1,8 +1,6 @@
 // What a hart can hold, and what reset gives.
-ghost use Rattle.std.specs.Prelude.{◌≡◌, cond, ◌&&◌, eqb, replicate};
+ghost use Rattle.std.specs.Prelude.{◌≡◌, cond, eqb, replicate};
 ghost use Rattle.bits.specs.Lists.{all};
-ghost use Rattle.bits.specs.Same.{same_list};
-ghost use Rattle.protection.specs.Arrays.{Arrays};
 ghost use Rattle.protection.specs.Configs.{packed, unpacked, configs_of};
 ghost use Rattle.protection.specs.Hold.{config_holdable, address_holdable, reset_pmp};
 ghost use Rattle.protection.specs.Same.{same_pmp};
@@ -11,6 +9,7 @@ use crate::Pmp;
 
 // The bits of eight configuration bytes that must be 1 where the next higher bit is: R where W is 1; with G of 1 or more also A[0] where A[1] is 1, which leaves
 // out A=2.
+#[tactic(auto, unfolding(crate::specs::Configs::packed))]
 fn set_by_next(grain: u64) -> u64
     ensures { result ≡ packed (replicate 8 (cond (eqb grain 0) 1 9)) }
 {
@@ -30,6 +29,7 @@ fn word_can_hold(grain: u64, word: u64) -> bool
 }
 
 // Whether a hart can hold the configuration bytes in pmpcfg0 and pmpcfg2.
+#[tactic(auto, using(bits::proofs::ListLaws::all_append), unfolding(crate::specs::Configs::configs_of))]
 pub fn configs_can_hold(grain: u64, low: u64, high: u64) -> bool
     ensures { result ≡ all (config_holdable grain) (configs_of low high) }
 {
@@ -40,12 +40,7 @@ pub fn configs_can_hold(grain: u64, low: u64, high: u64) -> bool
 pub fn addresses_can_hold(addrs: &[u64]) -> bool
     ensures { result ≡ all address_holdable addrs.now }
 {
-    let mut any: u64 = 0;
-    let mut i: usize = 0;
-    while i < addrs.len() {
-        any = any | addrs[i];
-        i += 1;
-    }
+    let any = addrs.iter().fold(0, |any, addr| any | *addr);
     any < 0x40000000000000
 }
 
@@ -60,33 +55,9 @@ pub fn reset(grain: u64) -> Pmp
     }
 }
 
-// Bytes a and b, and addresses c and d.
-fn same_arrays(a: [u8; 16], b: [u8; 16], c: [u64; 16], d: [u64; 16]) -> bool
-    ensures { result ≡ (same_list a b && same_list c d) }
-{
-    let mut configs = true;
-    let mut addresses = true;
-    let mut i: usize = 0;
-    while i < 16 {
-        configs = configs & (a[i] == b[i]);
-        addresses = addresses & (c[i] == d[i]);
-        i += 1;
-    }
-    configs & addresses
-}
-
-// Whether no byte and no address differs.
+// Whether no byte and no address differs. It is not `==`, as the grain is left out.
 pub fn same(a: Pmp, b: Pmp) -> bool
     ensures { result ≡ same_pmp a b }
 {
-    let a_cfgs = a.cfgs;
-    let b_cfgs = b.cfgs;
-    let a_addrs = a.addrs;
-    let b_addrs = b.addrs;
-    same_arrays(a_cfgs, b_cfgs, a_addrs, b_addrs)
+    (a.cfgs == b.cfgs) & (a.addrs == b.addrs)
 }
-
-// What the type says of the registers, as a fact for callers.
-pub fn typed(pmp: Pmp)
-    ensures { Arrays pmp }
-{}

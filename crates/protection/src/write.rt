@@ -1,10 +1,9 @@
 // What a write stores. Locks are judged before the write.
-ghost use Rattle.std.specs.Prelude.{◌≡◌, ◌+◌, ◌≤◌, ◌<◌, get_or};
+ghost use Rattle.std.specs.Prelude.{◌≡◌, ◌≤◌, ◌<◌};
 ghost use Rattle.protection.specs.Hold.{na4_unselectable};
 ghost use Rattle.protection.specs.Write.{config_written, configs_written, address_frozen, address_written, pmp_written};
 
 use crate::Pmp;
-use crate::configs::lowest_byte;
 use pmp::is_locked;
 
 // Whether a byte has A=2 where no hart can hold that.
@@ -34,33 +33,19 @@ fn configs_written(grain: u64, given: [u8; 16], first: usize, value: u64) -> [u8
     ensures { result ≡ configs_written grain 8 first value given }
 {
     let mut cfgs = given;
-    let mut at = first;
-    let mut rest = value;
-    let mut left: usize = 8;
-    while 0 < left {
-        cfgs[at] = config_written(grain, cfgs[at], lowest_byte(rest));
-        at += 1;
-        rest = rest / 256;
-        left -= 1;
+    for (i, byte) in value.to_le_bytes().iter().enumerate() {
+        cfgs[first + i] = config_written(grain, cfgs[first + i], *byte);
     }
     cfgs
 }
 
-// The byte of the next entry. Entry 15 has none.
-fn next_config(cfgs: [u8; 16], i: usize) -> u8
-    requires { i < 16 }
-    ensures { result ≡ get_or cfgs (i + 1) 0 }
-{
-    if i < 15 { cfgs[i + 1] } else { 0 }
-}
-
-// Whether entry i is locked, or the next one is locked with A=TOR.
+// Whether entry i is locked, or the next one is locked with A=TOR. Entry 15 has no next.
 fn is_address_frozen(cfgs: [u8; 16], i: usize) -> bool
     requires { i < 16 }
     ensures { result ≡ address_frozen cfgs i }
 {
     let this = cfgs[i];
-    let next = next_config(cfgs, i);
+    let next = cfgs.get(i + 1).copied().unwrap_or(0);
     is_locked(this) | (is_locked(next) & (next / 8 % 4 == 1))
 }
 
@@ -77,6 +62,7 @@ fn address_written(cfgs: [u8; 16], i: usize, old: u64, value: u64) -> u64
 
 // The registers after a write of any value to any number; a number that is not of protection changes nothing. The grain of 4 bytes is told apart, so that what is
 // compiled for it has no test of A.
+#[tactic(auto, unfolding(crate::specs::Write::pmp_written))]
 pub fn write_register(pmp: Pmp, number: u64, value: u64) -> Pmp
     ensures { result ≡ pmp_written pmp number value }
 {

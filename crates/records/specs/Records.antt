@@ -1,12 +1,10 @@
 -- A trace's records: three lines, `step=`, `a=`, `b=`, each with 16 lower-case hexadecimal digits and a line feed; unused arguments are 0.
-use Rattle.std.specs.Prelude.{ℕ, Bool, cond, ◌&&◌, ◌||◌, not, List, [], ◌∷◌, leb, eqb, get_or}
+use Rattle.std.specs.Prelude.{ℕ, Bool, cond, ◌&&◌, ◌||◌, not, List, [], ◌∷◌, leb, eqb, get_or, Option, Some, None}
 use Prim.Native.String.{String}
 use Rattle.lines.specs.Lines.{lines_of, words_in, is_text}
-use Rattle.steps.specs.declared.Decoded.{Decoded}
-use Rattle.steps.specs.declared.Decoded.TheVariants.{Formed, Nothing}
+use Rattle.steps.specs.declared.Step.{Step}
+use Rattle.steps.specs.declared.from_numbers.Numbers.{Numbers}
 use Rattle.steps.specs.Decode.{decoded}
-use Rattle.records.specs.declared.Record.{Record}
-use Rattle.records.specs.declared.Record.TheVariants.{Words, Broken}
 
 unfoldable pub keys : List String
 keys = "step" ∷ "a" ∷ "b" ∷ []
@@ -16,12 +14,12 @@ unfoldable pub record_of : ℕ → ℕ → ℕ → List ℕ
 record_of step a b = lines_of keys 0 (step ∷ a ∷ b ∷ [])
 
 -- the three words of a list of words
-abbrev pub three : List ℕ → Record
-three ws = Words (get_or ws 0 0) (get_or ws 1 0) (get_or ws 2 0)
+abbrev pub three : List ℕ → Numbers
+three ws = record { step = get_or ws 0 0; a = get_or ws 1 0; b = get_or ws 2 0 }
 
--- the words of a record, or that a line is broken
-unfoldable pub read_record : List ℕ → Record
-read_record t = cond (is_text keys t) (three (words_in keys t)) Broken
+-- the words of a record, or none where a line is broken
+unfoldable pub read_record : List ℕ → Option Numbers
+read_record t = cond (is_text keys t) (Some (three (words_in keys t))) None
 
 -- a is unused by steps 0, 7 to 12 and 14
 abbrev pub ignores_first : ℕ → Bool
@@ -35,19 +33,19 @@ unfoldable pub unused_are_zero : ℕ → ℕ → ℕ → Bool
 unused_are_zero step a b = (not (ignores_first step) || eqb a 0) && (not (ignores_second step) || eqb b 0)
 
 -- the step that a record names; a number above 17 names none
-unfoldable pub record_step : Record → Decoded
-record_step (Words step a b) = cond (unused_are_zero step a b) (decoded step a b) Nothing
-record_step Broken = Nothing
+unfoldable pub record_step : Option Numbers → Option Step
+record_step (Some n) = cond (unused_are_zero n.step n.a n.b) (decoded n.step n.a n.b) None
+record_step None = None
 
 -- the step of a record's text; none is refusal 8
-unfoldable pub read_step : List ℕ → Decoded
+unfoldable pub read_step : List ℕ → Option Step
 read_step t = record_step (read_record t)
 
 -- the record again, if it names a step
-abbrev pub naming : Record → Decoded → Record
-naming r (Formed step) = r
-naming r Nothing = Broken
+abbrev pub naming : Option Numbers → Option Step → Option Numbers
+naming r (Some step) = r
+naming r None = None
 
 -- the numbers of a record that names a step
-unfoldable pub read_numbers : List ℕ → Record
+unfoldable pub read_numbers : List ℕ → Option Numbers
 read_numbers t = naming (read_record t) (read_step t)

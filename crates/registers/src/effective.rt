@@ -24,7 +24,6 @@ pub fn effective_mode(r: Registers, access: Access) -> Mode
 {
     match access {
         Access::Fetch => mode_of(r.mode),
-        Access::Load => mode_of(data_mode(r)),
-        Access::Store => mode_of(data_mode(r)),
+        Access::Load | Access::Store => mode_of(data_mode(r)),
     }
 }

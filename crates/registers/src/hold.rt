@@ -25,6 +25,7 @@ fn level_can_hold(l: LevelRegisters) -> bool
 }
 
 // All registers but those of protection.
+#[tactic(auto, unfolding(crate::specs::Hold::registers_holdable))]
 pub fn registers_can_hold(r: Registers) -> bool
     ensures { result ≡ registers_holdable r }
 {

@@ -17,15 +17,8 @@ pub fn level_registers(level: Level, r: Registers) -> LevelRegisters
 pub fn with_level_registers(level: Level, r: Registers, l: LevelRegisters) -> Registers
     ensures { result ≡ with_level level r l }
 {
-    let mut e = r;
     match level {
-        Level::Supervisor => {
-            e.supervisor = l;
-            e
-        }
-        Level::Machine => {
-            e.machine = l;
-            e
-        }
+        Level::Supervisor => Registers { supervisor: l, ..r },
+        Level::Machine => Registers { machine: l, ..r },
     }
 }

@@ -14,7 +14,7 @@ pub use level::{level_registers, with_level_registers};
 pub use status::{pending_interrupts, previous_mode};
 
 // The trap registers, which both levels have: mtvec and stvec, mcounteren and scounteren, and so on.
-#[derive(Clone, Copy)]
+#[derive(Clone, Copy, PartialEq, Eq, Debug)]
 pub struct LevelRegisters {
     pub tvec: u64,
     pub counteren: u64,
@@ -25,7 +25,7 @@ pub struct LevelRegisters {
 }
 
 // `mip` holds the software bits only; `lines` are the interrupt lines from outside.
-#[derive(Clone, Copy)]
+#[derive(Clone, Copy, PartialEq, Eq, Debug)]
 pub struct Interrupts {
     pub mideleg: u64,
     pub mie: u64,
@@ -33,14 +33,15 @@ pub struct Interrupts {
     pub lines: u64,
 }
 
-#[derive(Clone, Copy)]
+#[derive(Clone, Copy, PartialEq, Eq, Debug)]
 pub struct Counters {
     pub mcountinhibit: u64,
     pub mcycle: u64,
     pub minstret: u64,
 }
 
-#[derive(Clone, Copy)]
+// The mode is a number, and no `pmp::Mode`: a state that no hart can hold can be given (its mode may be 2), and `registers_can_hold` refuses it.
+#[derive(Clone, Copy, PartialEq, Eq, Debug)]
 pub struct Registers {
     pub mode: u64,
     pub pc: u64,

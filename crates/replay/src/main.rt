@@ -4,43 +4,38 @@
 
 use std::io;
 
-fn usage(to: &impl Print) -> io::Result<()> {
-    to.write_all(b"usage: replay [START] [MEMORY] <TRACE\n")?;
-    to.write_all(
-        b"Replays a trace from the saved text, of either form, in the file START, or from reset, with\n",
-    )?;
-    to.write_all(
-        b"the words in the file MEMORY for page tables, or none. Either may be `-`, for no file.\n",
-    )?;
-    to.write_all(
-        b"Output is whole if its last line is `left N`, or `refused 4` or `refused 5` alone.\n",
-    )
-}
+const USAGE: &[u8] = b"usage: replay [START] [MEMORY] <TRACE
+Replays a trace from the saved text, of either form, in the file START, or from reset, with
+the words in the file MEMORY for page tables, or none. Either may be `-`, for no file.
+Output is whole if its last line is `left N`, or `refused 4` or `refused 5` alone.
+";
 
-// Tells what is wrong with the arguments. Nothing goes to standard output.
+// Tells what is wrong with the arguments. Nothing goes to standard output. `convert` has its like: one function for both would be a public one of which no
+// clause can say anything.
 fn wrong(rt: HostRuntime, what: &[u8], argument: &[u8]) -> io::Result<()> {
     let err = rt.stderr();
     err.write_all(b"replay: ")?;
     err.write_all(what)?;
     err.write_all(argument)?;
     err.write_all(b"\n")?;
-    usage(&err)
+    err.write_all(USAGE)
 }
 
 // `-` alone is no option.
 fn is_option(argument: &[u8]) -> bool {
-    1 < argument.len() && argument[0] == b'-'
+    argument.starts_with(b"-") && argument != b"-".as_slice()
 }
 
 fn with_arguments(rt: HostRuntime, start: &[u8], memory: &[u8]) -> io::Result<()> {
     if start == b"--help".as_slice() {
-        usage(&rt)
+        rt.write_all(USAGE)
     } else if is_option(start) {
         wrong(rt, b"unknown option ", start)
     } else if is_option(memory) {
         wrong(rt, b"unknown option ", memory)
     } else {
-        replay_stream::from_paths(rt, start, memory, &mut rt.stdin());
+        // A failure has been told, and the exit status tells nothing of it.
+        let _ = replay_stream::from_paths(rt, start, memory, &mut rt.stdin());
         Ok(())
     }
 }

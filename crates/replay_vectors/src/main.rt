@@ -11,7 +11,7 @@ fn replay(rt: HostRuntime, start: &[u8], memory: &[u8], trace: &[u8]) -> io::Res
     rt.write_all(b"\n")?;
     match streams::open(rt, trace) {
         Ok(mut file) => {
-            replay_stream::from_paths(rt, start, memory, &mut file);
+            let _ = replay_stream::from_paths(rt, start, memory, &mut file);
         }
         Err(error) => streams::fail(rt, trace, Some(error)),
     }

@@ -3,16 +3,16 @@ ghost use Rattle.std.specs.Prelude.{◌≡◌};
 ghost use Rattle.state.specs.Hold.{can_hold, reset_state};
 ghost use Rattle.state.specs.Slices.{loaded};
 
-use crate::words::{registers_at, to_words};
+use crate::words::registers_at;
 use crate::{State, places};
 
 // Whether a hart can hold the state in the words, judged where they lie. A slice of another length reads as the reset state, which a hart can hold.
 pub fn words_can_hold(words: &[u64]) -> bool
     ensures { result ≡ can_hold (loaded words.now) }
 {
-    if words.len() != 43 {
+    let Some(words) = words.as_array::<43>() else {
         return true;
-    }
+    };
     let grain = words[places::GRAIN];
     let registers = registers::registers_can_hold(registers_at(words));
     let configs = protection::configs_can_hold(
@@ -29,7 +29,7 @@ pub fn words_can_hold(words: &[u64]) -> bool
 pub fn can_hold(state: State) -> bool
     ensures { result ≡ can_hold state }
 {
-    let words = to_words(state);
+    let words = <[u64; 43]>::from(state);
     words_can_hold(&words)
 }
 
@@ -37,11 +37,9 @@ pub fn can_hold(state: State) -> bool
 pub fn reset(grain: u64) -> State
     ensures { result ≡ reset_state grain }
 {
-    let registers = registers::reset_registers();
-    let pmp = protection::reset(grain);
     State {
-        registers,
-        pmp,
+        registers: registers::reset_registers(),
+        pmp: protection::reset(grain),
         satp: 0,
     }
 }

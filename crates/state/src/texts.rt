@@ -9,6 +9,7 @@ use registers::fields::SUM;
 const MEDELEG: u64 = 0x3FF;
 
 // Whether a text of the first form can hold the state.
+#[tactic(auto, unfolding(crate::specs::Texts::first_form_holds))]
 pub fn first_form_holds(state: State) -> bool
     ensures { result ≡ first_form_holds state }
 {

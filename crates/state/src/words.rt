@@ -1,6 +1,6 @@
 // The registers in the order of a saved text's lines, satp and the grain last, in a slice that is read and written where it lies. A slice of another length holds no state: it reads
 // as the reset state, and stays as it is.
-ghost use Rattle.std.specs.Prelude.{◌≡◌, length, set};
+ghost use Rattle.std.specs.Prelude.{◌≡◌, set};
 ghost use Rattle.std.proofs.lemmas.List.Edits.{sets};
 ghost use Rattle.state.specs.Words.{register_words, pmp_words, words_of, registers_of, pmp_of, state_of};
 ghost use Rattle.state.specs.Slices.{loaded, loaded_registers, loaded_pmp, loaded_satp, stored, stored_registers, stored_pmp, stored_satp};
@@ -9,8 +9,8 @@ use crate::{State, places};
 use protection::Pmp;
 use registers::{Counters, Interrupts, LevelRegisters, Registers};
 
-pub(crate) fn registers_at(words: &[u64]) -> Registers
-    requires { length words.now ≡ 43 }
+// Of an array, as `pmp_at`, `put_registers` and `put_pmp` are: `load_registers` and its like promise besides what slices of other lengths read as.
+pub(crate) fn registers_at(words: &[u64; 43]) -> Registers
     ensures { result ≡ registers_of words.now }
 {
     let interrupts = Interrupts {
@@ -53,17 +53,17 @@ pub(crate) fn registers_at(words: &[u64]) -> Registers
 }
 
 // The registers but those of protection.
+#[tactic(auto, unfolding(crate::specs::Slices::loaded_registers))]
 pub fn load_registers(words: &[u64]) -> Registers
     ensures { result ≡ loaded_registers words.now }
 {
-    if words.len() != 43 {
-        return registers::reset_registers();
+    match words.as_array::<43>() {
+        Some(words) => registers_at(words),
+        None => registers::reset_registers(),
     }
-    registers_at(words)
 }
 
-fn put_registers(registers: Registers, words: &mut [u64])
-    requires { length words.old ≡ 43 }
+fn put_registers(registers: Registers, words: &mut [u64; 43])
     ensures { words.new ≡ sets words.old 0 (register_words registers) }
 {
     let interrupts = registers.interrupts;
@@ -96,25 +96,23 @@ fn put_registers(registers: Registers, words: &mut [u64])
 }
 
 // Writes the registers but those of protection.
+#[tactic(auto, unfolding(crate::specs::Slices::stored_registers))]
 pub fn store_registers(registers: Registers, words: &mut [u64])
     ensures { words.new ≡ stored_registers registers words.old }
 {
-    if words.len() != 43 {
-        return;
+    if let Some(words) = words.as_mut_array::<43>() {
+        put_registers(registers, words);
     }
-    put_registers(registers, words);
 }
 
-// The addresses are copied by a loop, here and below: it is compiled to one copy of 128 bytes, where sixteen reads stay sixteen loads and stores.
-fn pmp_at(words: &[u64]) -> Pmp
-    requires { length words.now ≡ 43 }
+// The addresses are copied by a loop, here and below: it is compiled to one copy of 128 bytes. Sixteen reads stay sixteen loads and stores, and
+// `copy_from_slice` a test of which way to copy, for which all of the registers are copied once more.
+fn pmp_at(words: &[u64; 43]) -> Pmp
     ensures { result ≡ pmp_of words.now }
 {
-    let mut addrs = [0u64; 16];
-    let mut i: usize = 0;
-    while i < 16 {
+    let mut addrs = [0; 16];
+    for i in 0..16 {
         addrs[i] = words[places::PMPADDR0 + i];
-        i += 1;
     }
     let cfgs = protection::configs_of(words[places::PMPCFG0], words[places::PMPCFG2]);
     Pmp {
@@ -125,70 +123,65 @@ fn pmp_at(words: &[u64]) -> Pmp
 }
 
 // The protection registers.
+#[tactic(auto, unfolding(crate::specs::Slices::loaded_pmp))]
 pub fn load_pmp(words: &[u64]) -> Pmp
     ensures { result ≡ loaded_pmp words.now }
 {
-    if words.len() != 43 {
-        return protection::reset(0);
+    match words.as_array::<43>() {
+        Some(words) => pmp_at(words),
+        None => protection::reset(0),
     }
-    pmp_at(words)
 }
 
-fn put_pmp(pmp: Pmp, words: &mut [u64])
-    requires { length words.old ≡ 43 }
+fn put_pmp(pmp: Pmp, words: &mut [u64; 43])
     ensures { words.new ≡ sets (set words.old 42 pmp.grain) 23 (pmp_words pmp) }
 {
-    let cfgs = pmp.cfgs;
-    let addrs = pmp.addrs;
     words[places::GRAIN] = pmp.grain;
-    words[places::PMPCFG0] = protection::pmpcfg0(cfgs);
-    words[places::PMPCFG2] = protection::pmpcfg2(cfgs);
-    let mut i: usize = 0;
-    while i < 16 {
+    words[places::PMPCFG0] = protection::pmpcfg0(pmp.cfgs);
+    words[places::PMPCFG2] = protection::pmpcfg2(pmp.cfgs);
+    let addrs = pmp.addrs;
+    for i in 0..16 {
         words[places::PMPADDR0 + i] = addrs[i];
-        i += 1;
     }
 }
 
 // Writes the protection registers.
+#[tactic(auto, unfolding(crate::specs::Slices::stored_pmp))]
 pub fn store_pmp(pmp: Pmp, words: &mut [u64])
     ensures { words.new ≡ stored_pmp pmp words.old }
 {
-    if words.len() != 43 {
-        return;
+    if let Some(words) = words.as_mut_array::<43>() {
+        put_pmp(pmp, words);
     }
-    put_pmp(pmp, words);
 }
 
+#[tactic(auto, unfolding(crate::specs::Slices::loaded_satp))]
 pub fn load_satp(words: &[u64]) -> u64
     ensures { result ≡ loaded_satp words.now }
 {
-    if words.len() != 43 {
-        return 0;
+    match words.as_array::<43>() {
+        Some(words) => words[places::SATP],
+        None => 0,
     }
-    words[places::SATP]
 }
 
+#[tactic(auto, unfolding(crate::specs::Slices::stored_satp))]
 pub fn store_satp(satp: u64, words: &mut [u64])
     ensures { words.new ≡ stored_satp satp words.old }
 {
-    if words.len() != 43 {
-        return;
+    if let Some(words) = words.as_mut_array::<43>() {
+        words[places::SATP] = satp;
     }
-    words[places::SATP] = satp;
 }
 
 // All registers.
 pub fn load(words: &[u64]) -> State
     ensures { result ≡ loaded words.now }
 {
-    let registers = load_registers(words);
-    let pmp = load_pmp(words);
-    let satp = load_satp(words);
     State {
-        registers,
-        pmp,
-        satp,
+        registers: load_registers(words),
+        pmp: load_pmp(words),
+        satp: load_satp(words),
     }
 }
 
@@ -196,26 +189,26 @@ pub fn load(words: &[u64]) -> State
 pub fn store(state: State, words: &mut [u64])
     ensures { words.new ≡ stored state words.old }
 {
-    let registers = state.registers;
-    let pmp = state.pmp;
-    store_registers(registers, words);
-    store_pmp(pmp, words);
+    store_registers(state.registers, words);
+    store_pmp(state.pmp, words);
     store_satp(state.satp, words);
 }
 
-pub fn to_words(state: State) -> [u64; 43]
-    ensures value { result ≡ words_of state }
-    ensures result_value { state_of result ≡ state }
-{
-    let pmp = state.pmp;
-    protection::typed(pmp);
-    let mut words = [0u64; 43];
-    store(state, &mut words);
-    words
+// The words of a state: read again they give the state.
+impl From<State> for [u64; 43] {
+    ghost from_gives = { λ state words. (words ≡ words_of state) × (state_of words ≡ state) };
+
+    fn from(state: State) -> [u64; 43] {
+        let mut words = [0; 43];
+        store(state, &mut words);
+        words
+    }
 }
 
-pub fn of_words(words: [u64; 43]) -> State
-    ensures { result ≡ state_of words }
-{
-    load(&words)
+impl From<[u64; 43]> for State {
+    ghost from_gives = { λ words state. state ≡ state_of words };
+
+    fn from(words: [u64; 43]) -> State {
+        load(&words)
+    }
 }

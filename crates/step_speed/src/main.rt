@@ -9,71 +9,101 @@ mod translated;
 
 use checksum::{answered, left_by};
 use hart::{Hart, Mapped};
-use mixes::{setting_of, settings, step_of};
+use mixes::{access_steps, any_number_step, csr_steps, protection_steps, settings, trap_steps};
+use paging::Memory;
 use std::env::Env;
 use std::io;
-use translated::tables;
+use steps::Step;
+use translated::{TABLES, tables, translated_settings, translated_step};
 
 // A hart from which a mix starts.
-fn set_up(mix: u64) -> Mapped {
-    let reset = Hart::reset(0);
-    let mut hart = reset.hart;
-    let mut map = reset.map;
-    let none: [u64; 0] = [];
-    let count = settings(mix);
-    for place in 0..count {
-        let next = hart.step(map, &none, 0, setting_of(mix, place));
+fn set_up(settings: &[Step]) -> Mapped {
+    let none_lent = Memory {
+        words: &[],
+        base: 0,
+    };
+    let Mapped { mut hart, mut map } = Hart::reset(0);
+    for setting in settings {
+        let next = hart.step(map, none_lent, *setting);
         hart = next.hart;
         map = next.map;
     }
     Mapped { hart, map }
 }
 
-// Does `count` steps of the mix, each given what the one before left and lent the memory, and sums up.
-fn step_through(mix: u64, memory: &[u64], base: u64, count: u64) -> u64 {
-    let start = set_up(mix);
-    let mut hart = start.hart;
-    let mut map = start.map;
+// Does `count` steps of a mix behind its settings, each given what the one before left and lent the page tables, and sums up.
+fn step_through<F: Fn(u64) -> Step>(
+    settings: &[Step],
+    tables: &[u64],
+    step_at: F,
+    count: u64,
+) -> u64
+    requires { F.IsAlwaysCallable step_at }
+{
+    let lent = Memory {
+        words: tables,
+        base: TABLES,
+    };
+    let Mapped { mut hart, mut map } = set_up(settings);
     let mut sum: u64 = 0;
-    for done in 0..count {
-        let next = hart.step(map, memory, base, step_of(mix, done));
-        let answer = next.answer;
-        sum = answered(sum, answer);
+    for place in 0..count {
+        let next = hart.step(map, lent, step_at(place));
+        sum = answered(sum, next.answer);
         hart = next.hart;
         map = next.map;
     }
     left_by(sum, hart, map)
 }
 
-// Only the sixth mix is lent page tables.
-fn checksum_of(mix: u64, count: u64) -> u64 {
-    let words = tables();
-    if mix == 6 {
-        step_through(mix, &words, 0x80000000, count)
-    } else {
-        step_through(mix, &words[0..0], 0, count)
+// Sixteen steps over and over, with no page tables.
+fn repeated(steps: [Step; 16], count: u64) -> u64 {
+    step_through(
+        &settings(),
+        &[],
+        |place| steps[(place % 16) as usize],
+        count,
+    )
+}
+
+#[derive(Clone, Copy)]
+enum Mix {
+    Csr,
+    Traps,
+    Accesses,
+    Protection,
+    AnyNumber,
+    Translated,
+}
+
+// The first has number 1.
+const MIXES: [Mix; 6] = [
+    Mix::Csr,
+    Mix::Traps,
+    Mix::Accesses,
+    Mix::Protection,
+    Mix::AnyNumber,
+    Mix::Translated,
+];
+
+fn checksum_of(mix: Mix, count: u64) -> u64 {
+    match mix {
+        Mix::Csr => repeated(csr_steps(), count),
+        Mix::Traps => repeated(trap_steps(), count),
+        Mix::Accesses => repeated(access_steps(), count),
+        Mix::Protection => repeated(protection_steps(), count),
+        Mix::AnyNumber => step_through(&settings(), &[], any_number_step, count),
+        Mix::Translated => step_through(&translated_settings(), &tables(), translated_step, count),
     }
 }
 
-fn report(rt: HostRuntime, mix: u64, count: u64) -> io::Result<()> {
-    let checksum = checksum_of(mix, count);
-    println!(rt; "mix {mix} steps {count} checksum {checksum:016x}")
-}
-
-// The number that the leading decimal digits of a text name, of which the first eighteen count.
+// The number that the leading decimal digits of a text name, of which the first eighteen count. (`parse` takes no text with more behind them.)
 fn number_in(text: &[u8]) -> u64 {
     let mut number: u64 = 0;
     for byte in text {
-        if *byte < b'0' {
-            return number;
+        if !byte.is_ascii_digit() || 99999999999999999 < number {
+            break;
         }
-        if b'9' < *byte {
-            return number;
-        }
-        if 99999999999999999 < number {
-            return number;
-        }
-        number = number * 10 + ((*byte - b'0') as u64);
+        number = number * 10 + u64::from(*byte - b'0');
     }
     number
 }
@@ -88,16 +118,15 @@ fn argument(rt: HostRuntime, place: usize) -> u64 {
 }
 
 fn main(rt: HostRuntime) -> io::Result<()> {
-    let mix = argument(rt, 1);
+    let chosen = argument(rt, 1);
     let count = argument(rt, 2);
-    if (1 <= mix) & (mix <= 6) {
-        report(rt, mix, count)
-    } else {
-        report(rt, 1, count)?;
-        report(rt, 2, count)?;
-        report(rt, 3, count)?;
-        report(rt, 4, count)?;
-        report(rt, 5, count)?;
-        report(rt, 6, count)
+    let all = chosen < 1 || 6 < chosen;
+    for (place, mix) in MIXES.iter().enumerate() {
+        let number = place as u64 + 1;
+        if all || number == chosen {
+            let checksum = checksum_of(*mix, count);
+            println!(rt; "mix {number} steps {count} checksum {checksum:016x}")?;
+        }
     }
+    Ok(())
 }

@@ -1,8 +1,11 @@
-// The sixth mix: accesses in U and S through page tables, in words from physical address 0x80000000 on. All but one are granted.
+// The sixth mix: accesses in U and S through page tables. All but one are granted.
 ghost use Rattle.std.specs.Prelude.{◌<◌};
 
 use crate::mixes::{fetch, load, store, write};
 use steps::{Event, Step};
+
+// The physical address of the tables' first word.
+pub(crate) const TABLES: u64 = 0x80000000;
 
 // V R W X U A D.
 const USER_PAGE: u64 = 0xDF;
@@ -24,20 +27,20 @@ pub(crate) fn tables() -> [u64; 1536] {
 }
 
 // From reset, eleven steps: entries for the tables, which can only be read, and for the pages of each size; then to U, with SUM.
-pub(crate) fn translated_setting(place: u64) -> Step {
-    match place {
-        0 => write(0x3B0, 0x200007FF),
-        1 => write(0x3B1, 0x2403FFFF),
-        2 => write(0x3B2, 0x240BFFFF),
-        3 => write(0x3B3, 0x17FFFFFF),
-        4 => write(0x3A0, 0x1F1F1F19),
-        5 => write(0x302, 0xB000),
-        6 => write(0x105, 0x1000),
-        7 => write(0x341, 0x2000),
-        8 => write(0x180, 0x8000000000080000),
-        9 => write(0x300, 0x40000),
-        _ => Step::Event(Event::Mret),
-    }
+pub(crate) fn translated_settings() -> [Step; 11] {
+    [
+        write(0x3B0, 0x200007FF),
+        write(0x3B1, 0x2403FFFF),
+        write(0x3B2, 0x240BFFFF),
+        write(0x3B3, 0x17FFFFFF),
+        write(0x3A0, 0x1F1F1F19),
+        write(0x302, 0xB000),
+        write(0x105, 0x1000),
+        write(0x341, 0x2000),
+        write(0x180, 0x8000000000080000),
+        write(0x300, 0x40000),
+        Step::Event(Event::Mret),
+    ]
 }
 
 // An access to a page of 4 KiB.
@@ -52,8 +55,7 @@ fn small_page_step(turn: u64, page: u64) -> Step
         _ => 8,
     };
     match turn % 8 {
-        3 => store(address, size),
-        6 => store(address, size),
+        3 | 6 => store(address, size),
         _ => load(address, size),
     }
 }

@@ -1,22 +1,20 @@
 -- The number of a step tells whether it is an access. Assumes nothing.
-use Rattle.std.proofs.Common.{◌≡◌, ℕ, Bool, true, false, cond, eqb, leb, sym, refl, ap, ◌∙◌, arith, eqb-true, leb-true}
+use Rattle.std.proofs.Common.{◌≡◌, ℕ, Bool, true, false, cond, eqb, leb, sym, refl, ap, ◌∙◌, arith, eqb-true, leb-true, Option, Some, None}
 use borrow.Author.Tests.{eqb-false}
 use Rattle.bits.proofs.Conjunction.{both}
 use Rattle.steps.specs.declared.Step.{Step}
-use Rattle.steps.specs.declared.Decoded.{Decoded}
-use Rattle.steps.specs.declared.Decoded.TheVariants.{Formed, Nothing}
 use Rattle.steps.specs.Decode.{decoded, is_access, names_access}
 
 -- of what numbers name
-abbrev access_of : Decoded → Bool
-access_of (Formed s) = is_access s
-access_of Nothing = false
+abbrev access_of : Option Step → Bool
+access_of (Some s) = is_access s
+access_of None = false
 
-else_access : (n k : ℕ) (s : Step) (d : Decoded) → is_access s ≡ names_access k → ((n ≡ k → ⊥) → access_of d ≡ names_access n)
-    → access_of (cond (eqb n k) (Formed s) d) ≡ names_access n
+else_access : (n k : ℕ) (s : Step) (d : Option Step) → is_access s ≡ names_access k → ((n ≡ k → ⊥) → access_of d ≡ names_access n)
+    → access_of (cond (eqb n k) (Some s) d) ≡ names_access n
 else_access n k s d here there = go (eqb n k) refl
   where
-    go : (b : Bool) → eqb n k ≡ b → access_of (cond b (Formed s) d) ≡ names_access n
+    go : (b : Bool) → eqb n k ≡ b → access_of (cond b (Some s) d) ≡ names_access n
     go true e = here ∙ ap names_access (sym (eqb-true n k e))
     go false e = there (eqb-false n k e)
 
@@ -38,5 +36,5 @@ number_access n a b =
     else_access n 14 _ _ refl (λ x. else_access n 15 _ _ refl (λ y. else_access n 16 _ _ refl (λ z. else_access n 17 _ _ refl (λ _.
     outside n x y z))))))))))))))))))
 
-pub access_number : (n a b : ℕ) {s : Step} → decoded n a b ≡ Formed s → names_access n ≡ is_access s
+pub access_number : (n a b : ℕ) {s : Step} → decoded n a b ≡ Some s → names_access n ≡ is_access s
 access_number n a b e = sym (number_access n a b) ∙ ap access_of e

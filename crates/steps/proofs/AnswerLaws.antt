@@ -16,4 +16,4 @@ words_are_numbers (DoneValue v) h = refl
 words_are_numbers (DoneFlag b) h = refl
 words_are_numbers (Granted entry) h = refl
 words_are_numbers (Trapped trap level entry) h = ap (λ (n : ℕ). 4 ∷ n ∷ level_number level ∷ entry ∷ []) (cause_is trap h)
-words_are_numbers (Refused n) h = refl
+words_are_numbers (Refused refusal) h = refl

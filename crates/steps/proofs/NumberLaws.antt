@@ -1,11 +1,10 @@
 -- Steps from the numbers of a list, three at a time. Assumes nothing.
-use Rattle.std.proofs.Common.{◌≡◌, ℕ, suc, ◌+◌, ◌-◌, ◌<◌, ◌≤◌, Bool, true, false, cond, ◌&&◌, eqb, leb, List, [], ◌∷◌, length, get_or, drop, sym, refl, ap, ◌∙◌, arith, length-drop, drop_of_length-le, drop-cons, eq-eqb, ne_eqb, eqb-true, leb-true}
+use Rattle.std.proofs.Common.{◌≡◌, ℕ, suc, ◌+◌, ◌-◌, ◌<◌, ◌≤◌, Bool, true, false, cond, ◌&&◌, eqb, leb, List, [], ◌∷◌, length, get_or, drop, sym, refl, ◌∙◌, arith, length-drop, drop_of_length-le, drop-cons, ne_eqb, leb-true, le-leb, nat_eq, take, Option, Some, None}
 use mathlib.Core.Bool.{false≢true}
-use borrow.Author.Tests.{eqb-false}
+use borrow.Author.Tests.{eqb-false, lt-leb}
+use Rattle.std.proofs.Math.Seq.{take-length}
 use Rattle.bits.proofs.Conjunction.{both}
 use Rattle.steps.specs.declared.Step.{Step}
-use Rattle.steps.specs.declared.Decoded.{Decoded}
-use Rattle.steps.specs.declared.Decoded.TheVariants.{Formed}
 use Rattle.steps.specs.Decode.{decoded, steps_of, name_steps}
 
 three : (l : List ℕ) (i : ℕ) → i + 3 ≤ length l
@@ -16,38 +15,41 @@ three l i h =
     let r : i + 3 ≡ suc (suc (suc i)) = omega arith in
     rw (p, q, r, drop-cons l i 0 (omega arith), drop-cons l (suc i) 0 (omega arith), drop-cons l (suc (suc i)) 0 (omega arith))
 
-pub named_next : (l : List ℕ) (i : ℕ) → 3 ≤ length l - i → name_steps (drop i l) ≡ (leb (get_or l i 0) 17 && name_steps (drop (i + 3) l))
+-- a step's number above 17
+pub above_17 : (l : List ℕ) → 3 ≤ length l → 17 < get_or l 0 0 → name_steps l ≡ false
 unfolding name_steps
-named_next l i h = rw (three l i (omega arith))
+above_17 [] h g = absurd (omega arith)
+above_17 (number ∷ []) h g = absurd (omega arith)
+above_17 (number ∷ a ∷ []) h g = absurd (omega arith)
+above_17 (number ∷ a ∷ b ∷ l) h g = rw (lt-leb number 17 g)
+
+-- one that names a step: the rest decides
+pub rest_named : (l : List ℕ) → 3 ≤ length l → get_or l 0 0 ≤ 17 → name_steps (take (length l - 3) (drop 3 l)) ≡ name_steps l
+unfolding name_steps
+rest_named [] h g = absurd (omega arith)
+rest_named (number ∷ []) h g = absurd (omega arith)
+rest_named (number ∷ a ∷ []) h g = absurd (omega arith)
+rest_named (number ∷ a ∷ b ∷ l) h g =
+    let n : suc (suc (suc (length l))) - 3 ≡ length l = omega arith in
+    rw (le-leb number 17 g, n, take-length l)
 
 -- fewer than three numbers are left
-last-named : (l : List ℕ) → length l < 3 → name_steps l ≡ eqb (length l) 0
+pub few_named : (l : List ℕ) → length l < 3 → name_steps l ≡ nat_eq (length l) 0
 unfolding name_steps
-last-named [] h = refl
-last-named (number ∷ []) h = refl
-last-named (number ∷ a ∷ []) h = refl
-last-named (number ∷ a ∷ b ∷ l) h = absurd (omega arith)
-
-all_passed : (n i : ℕ) → i ≤ n → eqb (n - i) 0 ≡ eqb n i
-all_passed n i h = go (eqb n i) refl
-  where
-    go : (b : Bool) → eqb n i ≡ b → eqb (n - i) 0 ≡ b
-    go true e = eq-eqb (n - i) 0 (omega (arith, eqb-true n i e))
-    go false e = ne_eqb (n - i) 0 (λ z. eqb-false n i e (omega arith))
-
-pub named_end : (l : List ℕ) (i : ℕ) → i ≤ length l → length l - i < 3 → name_steps (drop i l) ≡ eqb (length l) i
-named_end l i h g =
-    last-named (drop i l) (omega (arith, length-drop i l)) ∙ ap (λ (k : ℕ). eqb k 0) (length-drop i l) ∙ all_passed (length l) i h
+few_named [] h = refl
+few_named (number ∷ []) h = refl
+few_named (number ∷ a ∷ []) h = refl
+few_named (number ∷ a ∷ b ∷ l) h = absurd (omega arith)
 
 -- a step's number forms a step
-pub record IsFormed (d : Decoded) : Type 0 where
+pub record IsFormed (d : Option Step) : Type 0 where
   pub step : Step
-  pub formed : d ≡ Formed step
+  pub formed : d ≡ Some step
 
-else-formed : (n k : ℕ) (s : Step) (d : Decoded) → k ≤ n → (k < n → IsFormed d) → IsFormed (cond (eqb n k) (Formed s) d)
+else-formed : (n k : ℕ) (s : Step) (d : Option Step) → k ≤ n → (k < n → IsFormed d) → IsFormed (cond (eqb n k) (Some s) d)
 else-formed n k s d h f = go (eqb n k) refl
   where
-    go : (b : Bool) → eqb n k ≡ b → IsFormed (cond b (Formed s) d)
+    go : (b : Bool) → eqb n k ≡ b → IsFormed (cond b (Some s) d)
     go true e = record { step = s; formed = refl }
     go false e = let n≢k = eqb-false n k e in f (omega arith)
 
@@ -60,11 +62,23 @@ number-formed n a b h =
     else-formed n 12 _ _ (omega arith) (λ h12. else-formed n 13 _ _ (omega arith) (λ h13. else-formed n 14 _ _ (omega arith) (λ h14. else-formed n 15 _ _ (omega arith) (λ h15.
     else-formed n 16 _ _ (omega arith) (λ h16. else-formed n 17 _ _ (omega arith) (λ h17. absurd (omega arith)))))))))))))))))))
 
+-- no step has a number above 17
+passed : (n k : ℕ) (s : Step) (d : Option Step) → k < n → cond (eqb n k) (Some s) d ≡ d
+passed n k s d h = rw (ne_eqb n k (omega arith))
+
+pub none-formed : (n a b : ℕ) → 17 < n → decoded n a b ≡ None
+unfolding decoded
+none-formed n a b h =
+    passed n 0 _ _ (omega arith) ∙ passed n 1 _ _ (omega arith) ∙ passed n 2 _ _ (omega arith) ∙ passed n 3 _ _ (omega arith) ∙ passed n 4 _ _ (omega arith)
+    ∙ passed n 5 _ _ (omega arith) ∙ passed n 6 _ _ (omega arith) ∙ passed n 7 _ _ (omega arith) ∙ passed n 8 _ _ (omega arith) ∙ passed n 9 _ _ (omega arith)
+    ∙ passed n 10 _ _ (omega arith) ∙ passed n 11 _ _ (omega arith) ∙ passed n 12 _ _ (omega arith) ∙ passed n 13 _ _ (omega arith) ∙ passed n 14 _ _ (omega arith)
+    ∙ passed n 15 _ _ (omega arith) ∙ passed n 16 _ _ (omega arith) ∙ passed n 17 _ _ (omega arith)
+
 -- what is known of the numbers from i on
 pub record Named (l : List ℕ) (i : ℕ) : Type 0 where
   pub step : Step
   pub room : i + 3 ≤ length l
-  pub formed : decoded (get_or l i 0) (get_or l (i + 1) 0) (get_or l (i + 2) 0) ≡ Formed step
+  pub formed : decoded (get_or l i 0) (get_or l (i + 1) 0) (get_or l (i + 2) 0) ≡ Some step
   pub rest : name_steps (drop (i + 3) l) ≡ true
   pub steps : steps_of (drop i l) ≡ step ∷ steps_of (drop (i + 3) l)
 
@@ -80,7 +94,7 @@ unfolding name_steps
 three-named l i h = rw (three l i h)
 
 first_step : (l : List ℕ) (i : ℕ) → i + 3 ≤ length l → (s : Step)
-    → decoded (get_or l i 0) (get_or l (i + 1) 0) (get_or l (i + 2) 0) ≡ Formed s → steps_of (drop i l) ≡ s ∷ steps_of (drop (i + 3) l)
+    → decoded (get_or l i 0) (get_or l (i + 1) 0) (get_or l (i + 2) 0) ≡ Some s → steps_of (drop i l) ≡ s ∷ steps_of (drop (i + 3) l)
 unfolding steps_of
 first_step l i h s e = rw (three l i h, e)
 

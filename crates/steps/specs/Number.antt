@@ -1,6 +1,8 @@
 -- 01, "Steps", "Traps, returns, time" and "Protection, byte by byte", and 02, [5]: the numbers of each case of an answer and of a decision, and their values.
-use Rattle.std.specs.Prelude.{ℕ, ◌+◌, ◌%◌, ◌^◌, cond, List, [], ◌∷◌}
+use Rattle.std.specs.Prelude.{ℕ, ◌+◌, ◌%◌, ◌^◌, cond, List, [], ◌∷◌, Option, Some, None}
 use Rattle.pmp.specs.declared.Decision.{Decision}
+use Rattle.pmp.specs.declared.Refusal.{Refusal}
+use Rattle.pmp.specs.Number.{refusal_number}
 use Rattle.steps.specs.declared.Level.{Level}
 use Rattle.steps.specs.declared.Level.TheVariants.{Supervisor, Machine}
 use Rattle.steps.specs.declared.Trap.{Trap}
@@ -30,7 +32,7 @@ answer_interrupt (DoneValue old) = 0
 answer_interrupt (DoneFlag flag) = 0
 answer_interrupt (Granted entry) = 0
 answer_interrupt (Trapped trap level entry) = interrupt_number trap
-answer_interrupt (Refused number) = 0
+answer_interrupt (Refused refusal) = 0
 
 -- the cases are numbered in 01's order (house): 0 done; 1 done with a value; 2 done with yes (1) or no (0); 3 granted; 4 trapped, with cause and
 -- destination mode; 5 refused, with its number. The fourth number of a grant and a trap is the entry that decided, 16 for none (02, [5])
@@ -40,7 +42,7 @@ answer_numbers (DoneValue v) = 1 ∷ v ∷ 0 ∷ 0 ∷ []
 answer_numbers (DoneFlag b) = 2 ∷ cond b 1 0 ∷ 0 ∷ 0 ∷ []
 answer_numbers (Granted entry) = 3 ∷ 0 ∷ 0 ∷ entry ∷ []
 answer_numbers (Trapped trap level entry) = 4 ∷ cause_number trap ∷ level_number level ∷ entry ∷ []
-answer_numbers (Refused n) = 5 ∷ n ∷ 0 ∷ 0 ∷ []
+answer_numbers (Refused refusal) = 5 ∷ refusal_number refusal ∷ 0 ∷ 0 ∷ []
 
 -- the same in words of 64 bits: the sum of an interrupt's cause wraps. No step answers with an interrupt, and then these are the numbers
 abbrev pub cause_word : Trap → ℕ
@@ -53,19 +55,19 @@ answer_words Done = answer_numbers Done
 answer_words (DoneValue v) = answer_numbers (DoneValue v)
 answer_words (DoneFlag b) = answer_numbers (DoneFlag b)
 answer_words (Granted entry) = answer_numbers (Granted entry)
-answer_words (Refused n) = answer_numbers (Refused n)
+answer_words (Refused refusal) = answer_numbers (Refused refusal)
 
 -- a decision on an access has the numbers of the answers granted and refused; a fault is the case 6, with its cause and entry
 abbrev pub decision_numbers : Decision → List ℕ
 decision_numbers (Decision.Granted entry) = answer_numbers (Granted entry)
 decision_numbers (Decision.Fault cause entry) = 6 ∷ cause ∷ 0 ∷ entry ∷ []
-decision_numbers (Decision.Refused number) = answer_numbers (Refused number)
+decision_numbers (Decision.Refused refusal) = answer_numbers (Refused refusal)
 
--- the number of a refusal, and 0 for any other answer
-abbrev pub refusal_of : Answer → ℕ
-refusal_of Done = 0
-refusal_of (DoneValue old) = 0
-refusal_of (DoneFlag flag) = 0
-refusal_of (Granted entry) = 0
-refusal_of (Trapped trap level entry) = 0
-refusal_of (Refused number) = number
+-- the refusal of an answer, and none for any other answer
+abbrev pub refusal_of : Answer → Option Refusal
+refusal_of Done = None
+refusal_of (DoneValue old) = None
+refusal_of (DoneFlag flag) = None
+refusal_of (Granted entry) = None
+refusal_of (Trapped trap level entry) = None
+refusal_of (Refused refusal) = Some refusal

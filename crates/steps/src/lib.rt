@@ -1,16 +1,15 @@
 // What a hart can be asked to do, and what it answers.
 #![tactic(auto)]
 
-use pmp::Access;
+use pmp::{Access, Refusal};
 
 mod from_numbers;
 mod numbers;
 
-pub use from_numbers::{decode, name_steps, names_access};
-pub use numbers::{answer_words, level_number, refusal_of};
+pub use from_numbers::{Numbers, decode, name_steps, names_access};
 
 // What a CSR step does. `Read` is no write attempt; the other three are, even with operand 0.
-#[derive(Clone, Copy)]
+#[derive(Clone, Copy, Debug, PartialEq, Eq)]
 pub enum Operation {
     Write,
     Set,
@@ -19,7 +18,7 @@ pub enum Operation {
 }
 
 // The steps that concern the registers alone, and none of protection.
-#[derive(Clone, Copy)]
+#[derive(Clone, Copy, Debug, PartialEq, Eq)]
 pub enum Event {
     Raise(u64, u64),
     Lines(u64),
@@ -35,7 +34,7 @@ pub enum Event {
 
 // The eighteen steps in four families. A CSR step has its number and operand, an access its address and size; what a step does not name is
 // ignored.
-#[derive(Clone, Copy)]
+#[derive(Clone, Copy, Debug, PartialEq, Eq)]
 pub enum Step {
     Reset,
     Csr(Operation, u64, u64),
@@ -43,22 +42,15 @@ pub enum Step {
     Event(Event),
 }
 
-// The step that three numbers name, if they name one.
-#[derive(Clone, Copy)]
-pub enum Decoded {
-    Formed(Step),
-    Nothing,
-}
-
-// A level that traps are taken to.
-#[derive(Clone, Copy)]
+// A level that traps are taken to, by the number of its mode.
+#[derive(Clone, Copy, Debug, PartialEq, Eq)]
 pub enum Level {
-    Supervisor,
-    Machine,
+    Supervisor = 1,
+    Machine = 3,
 }
 
 // What a trap is taken for: an exception's cause, or an interrupt's number.
-#[derive(Clone, Copy)]
+#[derive(Clone, Copy, Debug, PartialEq, Eq)]
 pub enum Trap {
     Exception(u64),
     Interrupt(u64),
@@ -66,12 +58,12 @@ pub enum Trap {
 
 // What a step answers. `DoneValue` is a CSR step's old value, `DoneFlag` a yes or no. A grant and a trap have the entry that decided on the access, and
 // `pmp::NONE` where none did, as at a trap that comes from no access. The entry is a byte, so that it lies beside the level and makes no answer larger.
-#[derive(Clone, Copy)]
+#[derive(Clone, Copy, Debug, PartialEq, Eq)]
 pub enum Answer {
     Done,
     DoneValue(u64),
     DoneFlag(bool),
     Granted(u8),
     Trapped(Trap, Level, u8),
-    Refused(u64),
+    Refused(Refusal),
 }

@@ -1,59 +1,55 @@
 // The numbers of an answer's parts.
-ghost use Rattle.std.specs.Prelude.{◌≡◌, if◌then◌else◌};
+ghost use Rattle.std.specs.Prelude.{◌≡◌};
 ghost use Rattle.steps.specs.Number.{level_number, cause_word, answer_words, refusal_of};
 
 use crate::{Answer, Level, Trap};
+use pmp::Refusal;
 
-pub fn level_number(level: Level) -> u64
-    ensures { result ≡ level_number level }
-{
-    match level {
-        Level::Supervisor => 1,
-        Level::Machine => 3,
+impl From<Level> for u64 {
+    ghost from_gives = { λ level number. number ≡ level_number level };
+
+    fn from(level: Level) -> u64 {
+        level as u64
     }
 }
 
-// The number of a refusal, and 0 for any other answer.
-pub fn refusal_of(answer: Answer) -> u64
-    ensures { result ≡ refusal_of answer }
-{
-    match answer {
-        Answer::Done => 0,
-        Answer::DoneValue(_) => 0,
-        Answer::DoneFlag(_) => 0,
-        Answer::Granted(_) => 0,
-        Answer::Trapped(_, _, _) => 0,
-        Answer::Refused(number) => number,
+impl From<Trap> for u64 {
+    ghost from_gives = { λ trap word. word ≡ cause_word trap };
+
+    fn from(trap: Trap) -> u64 {
+        match trap {
+            Trap::Exception(cause) => cause,
+            Trap::Interrupt(number) => 0x8000000000000000u64.wrapping_add(number),
+        }
     }
 }
 
-fn flag_number(flag: bool) -> u64
-    ensures { result ≡ (if flag then 1 else 0) }
-{
-    if flag { 1 } else { 0 }
-}
-
-fn cause_word(trap: Trap) -> u64
-    ensures { result ≡ cause_word trap }
-{
-    match trap {
-        Trap::Exception(cause) => cause,
-        Trap::Interrupt(number) => std::num::wrapping_add_u64(0x8000000000000000, number),
+impl Answer {
+    // The refusal, where the answer is one.
+    pub fn refusal(self) -> Option<Refusal>
+        ensures { result ≡ refusal_of self }
+    {
+        match self {
+            Answer::Refused(refusal) => Some(refusal),
+            _ => None,
+        }
     }
 }
 
 // The four words of an answer.
-pub fn answer_words(answer: Answer) -> [u64; 4]
-    ensures { result ≡ answer_words answer }
-{
-    match answer {
-        Answer::Done => [0, 0, 0, 0],
-        Answer::DoneValue(value) => [1, value, 0, 0],
-        Answer::DoneFlag(flag) => [2, flag_number(flag), 0, 0],
-        Answer::Granted(entry) => [3, 0, 0, entry as u64],
-        Answer::Trapped(trap, level, entry) => {
-            [4, cause_word(trap), level_number(level), entry as u64]
+impl From<Answer> for [u64; 4] {
+    ghost from_gives = { λ answer words. words ≡ answer_words answer };
+
+    fn from(answer: Answer) -> [u64; 4] {
+        match answer {
+            Answer::Done => [0, 0, 0, 0],
+            Answer::DoneValue(value) => [1, value, 0, 0],
+            Answer::DoneFlag(flag) => [2, u64::from(flag), 0, 0],
+            Answer::Granted(entry) => [3, 0, 0, u64::from(entry)],
+            Answer::Trapped(trap, level, entry) => {
+                [4, u64::from(trap), u64::from(level), u64::from(entry)]
+            }
+            Answer::Refused(refusal) => [5, u64::from(refusal), 0, 0],
         }
-        Answer::Refused(number) => [5, number, 0, 0],
     }
 }

@@ -19,67 +19,51 @@ const TOO_LONG: i32 = 36;
 
 const NOT_TEXT: i32 = 84;
 
-// The bytes that were moved, and whether a call failed, with what the system said of it.
+// A transfer that stopped before its end: the bytes moved before it, and what the system said, if anything.
 #[derive(Clone, Copy)]
-pub struct Transfer {
+pub struct Incomplete {
     pub count: usize,
-    pub failed: bool,
     pub error: Option<io::Error>,
 }
 
-// Reads until the buffer is full, the input ends or a read fails.
-pub fn fill<R: Read>(input: &mut R, buffer: &mut [u8]) -> Transfer
+// Reads until the buffer is full or the input ends: how many bytes came.
+pub fn fill<R: Read>(input: &mut R, buffer: &mut [u8]) -> Result<usize, Incomplete>
     ensures { Filled buffer.old result }
 {
+    // The count is what is told, so it is kept by itself; std's read_exact tells none where a read fails.
     let mut count: usize = 0;
     while count < buffer.len() {
-        let more = match input.read(&mut buffer[count..]) {
-            Ok(more) => more,
-            Err(error) => {
-                return Transfer {
-                    count,
-                    failed: true,
-                    error: Some(error),
-                };
-            }
-        };
-        if more == 0 {
-            return Transfer {
+        let more = input
+            .read(&mut buffer[count..])
+            .map_err(|error| Incomplete {
                 count,
-                failed: false,
-                error: None,
-            };
+                error: Some(error),
+            })?;
+        if more == 0 {
+            break;
         }
         count += more;
     }
-    Transfer {
-        count,
-        failed: false,
-        error: None,
-    }
+    Ok(count)
 }
 
-// Writes to standard output. A write that takes nothing ends it, and is told.
-pub fn write(rt: HostRuntime, bytes: &[u8]) -> Transfer
+// Writes to standard output: how many bytes, which are all of them. A write that takes nothing ends it, and is told.
+pub fn write(rt: HostRuntime, bytes: &[u8]) -> Result<usize, Incomplete>
     ensures { Written bytes.now result }
 {
-    let mut count: usize = 0;
-    let mut error = None;
-    while count < bytes.len() {
-        let put = rt.write_some(&bytes[count..]);
-        error = put.err();
+    let mut rest = bytes;
+    while !rest.is_empty() {
+        let put = rt.write_some(rest);
         let taken = put.unwrap_or(0);
         if taken == 0 {
+            let error = put.err();
             fail(rt, b"standard output", error);
-            break;
+            let count = bytes.len() - rest.len();
+            return Err(Incomplete { count, error });
         }
-        count += taken;
+        rest = &rest[taken..];
     }
-    Transfer {
-        count,
-        failed: count < bytes.len(),
-        error,
-    }
+    Ok(bytes.len())
 }
 
 // A line on standard error: what failed, and the system's text of the error.
@@ -118,10 +102,7 @@ pub fn open(rt: HostRuntime, path: &[u8]) -> io::Result<File>
 
 // Whether the program has an argument at a place, of which the first is 1.
 pub fn has_argument(rt: HostRuntime, place: usize) -> bool {
-    match rt.arg(place, &mut []) {
-        Err(FillError::NotPresent) => false,
-        _ => true,
-    }
+    !matches!(rt.arg(place, &mut []), Err(FillError::NotPresent))
 }
 
 // Puts an argument at the front of the buffer: its length. One that is missing or too long is told by its name.

@@ -1,17 +1,16 @@
 -- The two forms: their texts compute with the words as variables, and what the program does with the text of zeros follows.
 use Prim.Native.Nat.{ℕ, ◌+◌, ◌-◌, ◌≤◌, ◌<◌}
 use mathlib.Core.Path.{◌≡◌, refl, sym, ap, ◌∙◌}
-use mathlib.Core.Bool.{Bool, true, cond, ◌&&◌, and_assoc, and-true}
-use mathlib.Core.List.{List, [], ◌++◌, append_assoc}
+use mathlib.Core.Bool.{Bool, true, false, cond, ◌&&◌}
+use mathlib.Core.List.{List, [], ◌∷◌, ◌++◌, append_assoc}
 use native.Mathlib.Omega.{arith}
-use native.Mathlib.Numerals.{add-one}
 use borrow.Author.Tests.{le-leb, leb-true}
 use lib.Dec.{leb}
-use lib.ListN.{length, get_or, take, drop, replicate, set, drop_of_length-le, length-append, length-drop}
+use lib.ListN.{length, get_or, take, drop, replicate, drop_of_length-le, length-append, length-drop}
 use lib.Seq.{sets, take-length, take_at, drop_at}
 use Rattle.lines.specs.Lines.{bytes_of, hex_digits, line_of, lines_of, lines_length, places_of, words_in, is_text}
 use Rattle.lines.specs.Places.{with_word, with_words}
-use Rattle.lines.specs.declared.Field.{Field}
+use Rattle.std.specs.Prelude.{Option, Some, None}
 use Rattle.lines.specs.Fields.{has_key, word_at, line_at, lines_at, all_ok, words_read}
 use Rattle.bits.proofs.Conjunction.{both}
 use Rattle.bits.proofs.SameLaws.{same_lengths}
@@ -51,11 +50,6 @@ zeros_part : (form : Form) → take (length_of form) (drop (22 - head_length for
 unfolding bytes_of first_keys keys_of head_of hex_digits line_of lines_of text_of
 zeros_part First = refl
 zeros_part Second = refl
-
--- that part lies within it
-pub part_within : (form : Form) → 22 - head_length form + length_of form ≤ 1094
-part_within First = omega arith
-part_within Second = omega arith
 
 keys_length : (form : Form) → head_length form + lines_length (keys_of form) ≡ length_of form
 unfolding bytes_of first_keys keys_of lines_length
@@ -167,25 +161,42 @@ form_judged form t h =
     head_same t (head_of form) (lines_of (keys_of form) 0 (words_of_text form t)) n
     ∙ rw (head_length_lem form, lines-completed form (drop (head_length form) t))
 
--- the answer of the reader, where k tells whether it begins with the head, and r whether all lines are in the form
-pub lines-read : (form : Form) (t ws : List ℕ) {m : ℕ} {ps : List ℕ} (k r : Bool) → length t ≡ length_of form → m ≡ head_length form → ps ≡ places_in form
-    → k ≡ has_key t 0 (take (22 - (22 - m)) (drop (22 - m) (text_of Second [])))
-    → r ≡ all_ok (lines_by zero_lines ps (take (length t - m) (drop m t)) 0)
-    → ws ≡ sets (replicate 43 0) 0 (words_read (lines_by zero_lines ps (take (length t - m) (drop m t)) 0))
-    → cond (k && r) (read_as ws) no_text ≡ read_text form t
-unfolding read_text words_of_text
-lines-read form t ws {m} {ps} k r h b p i e d =
-    let u = take (length t - m) (drop m t) in
-    let v = drop (head_length form) t in
-    let c : u ≡ v = ap (λ (n : ℕ). take n (drop m t)) (sym (length-drop m t)) ∙ take-length (drop m t) ∙ ap (λ (n : ℕ). drop n t) b in
-    let n : length v ≡ lines_length (keys_of form) = length-drop (head_length form) t ∙ omega (arith, keys_length form) in
-    let f : lines_by zero_lines ps u 0 ≡ lines_at (keys_of form) v 0 = (λ j. lines_by zero_lines (p j) (c j) 0) ∙ form-lines form v in
-    let w : ws ≡ completed form (words_in (keys_of form) v) =
-    d ∙ ap (λ (l : List Field). sets (replicate 43 0) 0 (words_read l)) f ∙ words-full form v ∙ ap (completed form) (sym (words_judged v (keys_of form) n)) in
-    let o : r ≡ is_text (keys_of form) v = e ∙ ap all_ok f ∙ sym (text_judged v (keys_of form) n) in
-    let q : k ≡ has_key t 0 (head_of form) =
-    i ∙ ap (λ (n : ℕ). has_key t 0 (take (22 - (22 - n)) (drop (22 - n) (text_of Second [])))) b ∙ ap (has_key t 0) (form_head form) in
-    rw (w, form_judged form t h, ← o, ← q)
+-- what the reader finds, where m bytes are its head and the digits of its lines stand at these places
+module _ (form : Form) (t : List ℕ) {m : ℕ} {ps : List ℕ} (h : length t ≡ length_of form) (b : m ≡ head_length form) (p : ps ≡ places_in form) where
+  abbrev behind_head : List ℕ
+  behind_head = drop (head_length form) t
+
+  abbrev lines_found : List (Option ℕ)
+  lines_found = lines_by zero_lines ps (take (length t - m) (drop m t)) 0
+
+  lines_are : lines_found ≡ lines_at (keys_of form) behind_head 0
+  lines_are =
+      let c : take (length t - m) (drop m t) ≡ behind_head =
+      ap (λ (n : ℕ). take n (drop m t)) (sym (length-drop m t)) ∙ take-length (drop m t) ∙ ap (λ (n : ℕ). drop n t) b in
+      (λ j. lines_by zero_lines (p j) (c j) 0) ∙ form-lines form behind_head
+
+  -- where k tells whether it begins with the head, and r whether all lines are in the form
+  module _ (k r : Bool) (i : k ≡ has_key t 0 (take (22 - (22 - m)) (drop (22 - m) (text_of Second [])))) (e : r ≡ all_ok lines_found) where
+    found_judged : (k && r) ≡ is_text_of form t
+    found_judged =
+        let n : length behind_head ≡ lines_length (keys_of form) = length-drop (head_length form) t ∙ omega (arith, keys_length form) in
+        let o : r ≡ is_text (keys_of form) behind_head = e ∙ ap all_ok lines_are ∙ sym (text_judged behind_head (keys_of form) n) in
+        let q : k ≡ has_key t 0 (head_of form) =
+        i ∙ ap (λ (n : ℕ). has_key t 0 (take (22 - (22 - n)) (drop (22 - n) (text_of Second [])))) b ∙ ap (has_key t 0) (form_head form) in
+        rw (form_judged form t h, ← o, ← q)
+
+    pub text-unread : (k && r) ≡ false → no_text ≡ read_text form t
+    unfolding read_text
+    text-unread f = rw (sym found_judged ∙ f)
+
+    pub text-found : (ws : List ℕ) → (k && r) ≡ true → (r ≡ true → ws ≡ sets (replicate 43 0) 0 (words_read lines_found)) → read_as ws ≡ read_text form t
+    unfolding words_of_text read_text
+    text-found ws f d =
+        let lined : r ≡ true = (both k r f).1 in
+        let w : ws ≡ completed form (words_in (keys_of form) behind_head) =
+        d lined ∙ ap (λ (l : List (Option ℕ)). sets (replicate 43 0) 0 (words_read l)) lines_are ∙ words-full form behind_head
+        ∙ ap (completed form) (sym (words_judged behind_head (keys_of form) (sym (ap all_ok lines_are) ∙ sym e ∙ lined))) in
+        rw (sym found_judged ∙ f, w)
 
 -- a text that is longer or shorter
 pub length-unread : (form : Form) (t : List ℕ) → (length t ≡ length_of form → ⊥) → no_text ≡ read_text form t
@@ -194,26 +205,46 @@ length-unread form t h = rw (← same_lengths t (text_of form (words_of_text for
 
 -- ---- the loop over the lines, where i of them are read and the next starts at place p
 
-module _ (template ps : List ℕ) (i p : ℕ) where
+module _ (ps : List ℕ) (i p : ℕ) where
   abbrev digits : ℕ
   digits = get_or ps i 0
 
-  pub line_ordered : i < length ps → in_order (length template) (drop i ps) p ≡ true
-      → (p ≤ digits) × (digits + 17 ≤ length template) × (in_order (length template) (drop (i + 1) ps) (digits + 17) ≡ true)
-  unfolding in_order
-  line_ordered h e =
-      let b = both (leb p digits && leb (digits + 17) (length template)) (in_order (length template) (drop (i + 1) ps) (digits + 17)) (rw (from_place ps i h) at e) in
-      let l = both (leb p digits) (leb (digits + 17) (length template)) b.0 in
-      (leb-true p digits l.0, leb-true (digits + 17) (length template) l.1, b.1)
+  -- the next line lies behind the one before and within a template of length n, and so do those that are left
+  module _ (n : ℕ) (h : i < length ps) (e : in_order n (drop i ps) p ≡ true) where
+    in_parts : ((leb p digits && leb (digits + 17) n) ≡ true) × (in_order n (drop (i + 1) ps) (digits + 17) ≡ true)
+    unfolding in_order
+    in_parts = both (leb p digits && leb (digits + 17) n) (in_order n (drop (i + 1) ps) (digits + 17)) (rw (from_place ps i h) at e)
 
-  pub lines_more : (t : List ℕ) (ok : Bool) (ws : List ℕ) (k : Bool) (f : Field)
-      → i < length ps → k ≡ has_key t p (take (digits - p) (drop p template)) → f ≡ word_at t digits
-      → ((ok && all_ok (lines_by template (drop i ps) t p)) ≡ (((ok && k) && f.ok) && all_ok (lines_by template (drop (i + 1) ps) t (digits + 17))))
-      × (sets ws i (words_read (lines_by template (drop i ps) t p)) ≡ sets (set ws i f.word) (i + 1) (words_read (lines_by template (drop (i + 1) ps) t (digits + 17))))
-  unfolding lines_by all_ok words_read
-  lines_more t ok ws k f h d e = (rw (from_place ps i h, ← d, ← e) (simp and_assoc), rw (from_place ps i h, ← e, add-one i))
+    pub line_behind : p ≤ digits
+    line_behind = leb-true p digits (both (leb p digits) (leb (digits + 17) n) in_parts.0).0
 
-  pub lines-all : (t : List ℕ) (ok : Bool) (ws : List ℕ) → length ps ≤ i
-      → ((ok && all_ok (lines_by template (drop i ps) t p)) ≡ ok) × (sets ws i (words_read (lines_by template (drop i ps) t p)) ≡ ws)
-  unfolding lines_by all_ok words_read
-  lines-all t ok ws h = (rw (drop_of_length-le ps h) (and-true ok), rw (drop_of_length-le ps h))
+    pub line_inside : digits + 17 ≤ n
+    line_inside = leb-true (digits + 17) n (both (leb p digits) (leb (digits + 17) n) in_parts.0).1
+
+    pub lines_left : in_order n (drop (i + 1) ps) (digits + 17) ≡ true
+    lines_left = in_parts.1
+
+  module _ (template t : List ℕ) where
+    abbrev key : List ℕ
+    key = take (digits - p) (drop p template)
+
+    lines_more : i < length ps → lines_by template (drop i ps) t p ≡ cond (has_key t p key) (word_at t digits) None ∷ lines_by template (drop (i + 1) ps) t (digits + 17)
+    unfolding lines_by
+    lines_more h = rw (from_place ps i h)
+
+    -- its key or its word is broken, or both are read
+    pub key_broken : i < length ps → has_key t p key ≡ false → all_ok (lines_by template (drop i ps) t p) ≡ false
+    unfolding all_ok
+    key_broken h e = rw (lines_more h, e)
+
+    pub word_broken : i < length ps → has_key t p key ≡ true → word_at t digits ≡ None → all_ok (lines_by template (drop i ps) t p) ≡ false
+    unfolding all_ok
+    word_broken h e d = rw (lines_more h, e, d)
+
+    pub line_read : (w : ℕ) → i < length ps → has_key t p key ≡ true → word_at t digits ≡ Some w
+        → lines_by template (drop i ps) t p ≡ Some w ∷ lines_by template (drop (i + 1) ps) t (digits + 17)
+    line_read w h e d = rw (lines_more h, e, d)
+
+    pub lines_passed : length ps ≤ i → lines_by template (drop i ps) t p ≡ []
+    unfolding lines_by
+    lines_passed h = rw (drop_of_length-le ps h)

@@ -1,10 +1,15 @@
 -- 01, "Saved text", and 02, [10]: a text in either form, which is lines of a hart's 43 words.
-use Rattle.std.specs.Prelude.{ℕ, Bool, true, false, cond, List, [], ◌∷◌, ◌++◌, leb, length, drop, replicate}
+use Rattle.std.specs.Prelude.{ℕ, Bool, true, false, cond, List, [], ◌∷◌, ◌++◌, eqb, leb, length, drop, replicate, Result, Ok, Err}
 use Prim.Native.String.{String}
 use Rattle.bits.specs.Same.{same_list}
 use Rattle.lines.specs.Lines.{line_of, lines_of, words_in}
+use Rattle.text.specs.declared.UnknownForm.{UnknownForm}
 use Rattle.text.specs.declared.Form.{Form}
 use Rattle.text.specs.declared.Form.TheVariants.{First, Second}
+
+-- the form of a number
+abbrev pub form_numbered : ℕ → Result Form UnknownForm
+form_numbered n = cond (eqb n 1) (Ok First) (cond (eqb n 2) (Ok Second) (Err (record { 0 = n })))
 
 abbrev pub other : Form → Form
 other First = Second
@@ -71,7 +76,7 @@ words_of_text form t = completed form (words_in (keys_of form) (drop (head_lengt
 unfoldable pub is_text_of : Form → List ℕ → Bool
 is_text_of form t = same_list t (text_of form (words_of_text form t))
 
--- whether a text is in the form, and the words that are read of it
+-- whether a text is in the form, and the words that are read of it. It is no Option, as words that are not in the form are promised too
 pub record Reading : Type 0 where
   pub ok : Bool
   pub words : List ℕ

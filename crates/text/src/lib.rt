@@ -5,14 +5,33 @@
 ghost use Rattle.std.specs.Prelude.{◌≡◌, true, ◌≤◌, length};
 ghost use Rattle.std.proofs.lemmas.List.Edits.{sets};
 ghost use Rattle.lines.specs.Fields.{all_ok, words_read};
-ghost use Rattle.text.specs.Text.{length_of, head_length, line_count, has_room_for, written_to, read_text};
+ghost use Rattle.text.specs.Text.{form_numbered, length_of, head_length, line_count, has_room_for, written_to, read_text};
 ghost use Rattle.text.specs.Template.{in_order, lines_by};
 
 // The forms of a text.
-#[derive(Clone, Copy)]
+#[derive(Clone, Copy, Debug, PartialEq, Eq)]
 pub enum Form {
     First,
     Second,
+}
+
+// A number that is no form's.
+#[derive(Clone, Copy, Debug, PartialEq, Eq)]
+pub struct UnknownForm(pub u64);
+
+impl TryFrom<u64> for Form {
+    type Error = UnknownForm;
+
+    ghost try_from_gives = { λ number r. r ≡ form_numbered number };
+
+    // The form of a number, 1 or 2.
+    fn try_from(number: u64) -> Result<Self, UnknownForm> {
+        match number {
+            1 => Ok(Form::First),
+            2 => Ok(Form::Second),
+            _ => Err(UnknownForm(number)),
+        }
+    }
 }
 
 // The bytes of the line that tells the second form.
@@ -64,7 +83,7 @@ const ZEROS: [u8; 1094] = *b"form=0000000000000002\n\
     satp=0000000000000000\n\
     grain=0000000000000000\n";
 
-// Where the digits of each word start, behind the line that tells the form.
+// Where the digits of each word start, behind the line that tells the form. They are written out, though ZEROS has them too: a constant has no computed values.
 const PLACES: [usize; 43] = [
     5, 25, 50, 75, 100, 121, 142, 165, 188, 216, 247, 273, 295, 319, 342, 365, 393, 419, 441, 465,
     488, 512, 538, 563, 588, 614, 640, 666, 692, 718, 744, 770, 796, 822, 848, 875, 902, 929, 956,
@@ -105,6 +124,8 @@ fn line_count(form: Form) -> usize
 }
 
 // Writes the text of words to the front of a buffer and answers yes; a buffer shorter than the text stays as it was. A word that is missing is 0.
+// A yes or no is enough: what is promised of the buffer stands in a clause of its own.
+#[tactic(auto, unfolding(crate::specs::Text::written_to))]
 pub fn write(form: Form, words: &[u64], buffer: &mut [u8]) -> bool
     ensures value { result ≡ has_room_for form buffer.old }
     ensures buffer_after { buffer.new ≡ written_to form words.now buffer.old }
@@ -122,30 +143,31 @@ pub fn write(form: Form, words: &[u64], buffer: &mut [u8]) -> bool
     true
 }
 
-// Reads line after line. The key of each stands in a template, from the end of the line before up to the place of its digits. Key and word are
-// read apart: as read_word has this caller too, lines::read_line stays small, and is inlined where its key is a constant.
+// Reads line after line, up to one that is not in the form. The key of each stands in a template, from the end of the line before up to the place of its
+// digits. Key and word are read apart: as read_word has this caller too, lines::read_line stays small, and is inlined where its key is a constant.
+#[tactic(auto, using(crate::proofs::Template::line_behind, crate::proofs::Template::line_inside))]
 fn read_lines(template: &[u8], places: &[usize], text: &[u8], words: &mut [u64]) -> bool
     requires { (in_order (length template.now) places.now 0 ≡ true) × (length places.now ≤ length words.old) }
     ensures value { result ≡ all_ok (lines_by template.now places.now text.now 0) }
-    ensures words_after { words.new ≡ sets words.old 0 (words_read (lines_by template.now places.now text.now 0)) }
+    ensures words_after { result ≡ true → words.new ≡ sets words.old 0 (words_read (lines_by template.now places.now text.now 0)) }
 {
-    let mut ok = true;
     let mut start: usize = 0;
-    let mut i: usize = 0;
-    while i < places.len() {
-        let place = places[i];
-        let keyed = lines::has_key(text, start, &template[start..place]);
-        let digits = lines::read_word(text, place);
-        ok = ok & keyed & digits.ok;
-        words[i] = digits.word;
-        start = place + 17;
-        i += 1;
+    for (i, place) in places.iter().enumerate() {
+        if !lines::has_key(text, start, &template[start..*place]) {
+            return false;
+        }
+        let Some(word) = lines::read_word(text, *place) else {
+            return false;
+        };
+        words[i] = word;
+        start = *place + 17;
     }
-    ok
+    true
 }
 
 // Reads a text: the words of its lines, if all of them are in the form. Words that the form has no line for are 0, and so are all where the text is not in
-// the form. They are written where the caller keeps them: handed back, they would be copied.
+// the form. They are written where the caller keeps them: handed back, they would be copied. So a yes or no is enough: what is promised of the words stands in a
+// clause of its own.
 pub fn read(form: Form, text: &[u8], words: &mut [u64; 43]) -> bool
     ensures value { result ≡ (read_text form text.now).ok }
     ensures words_after { words.new ≡ (read_text form text.now).words }

@@ -7,6 +7,7 @@ use Rattle.trace.specs.Replies.{reply_line, written}
 use Rattle.trace.specs.Reading.{Replay, Reading, reading, after_decoded, reply_to, record_replies, after_bytes, replies_to}
 use Rattle.trace.proofs.OneByte.{byte_cases}
 use Rattle.trace.proofs.Readers.{Kept}
+use Rattle.trace.specs.Widths.{line_fits}
 use Rattle.trace.proofs.Replying.{written-length}
 
 -- ---- a reply for every 60 bytes
@@ -32,4 +33,4 @@ module _ (m : Memory) where
 
   -- one record may be begun before the bytes
   pub lines-room : (x : Reading) (bytes : List ℕ) → Kept x → length (written reply_line (replies_to m x bytes)) ≤ 64 * (length bytes / 60 + 1)
-  lines-room x bytes k = omega (arith, written-length true (replies_to m x bytes), replies_count x bytes, k.short)
+  lines-room x bytes k = omega (arith, written-length reply_line 64 line_fits (replies_to m x bytes), replies_count x bytes, k.short)

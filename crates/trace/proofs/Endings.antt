@@ -8,7 +8,7 @@ use Rattle.hart.specs.declared.Hart.{Hart}
 use Rattle.trace.specs.Answers.{decimal, numbered_line}
 use Rattle.trace.specs.SavedTexts.{state_text}
 use Rattle.trace.specs.Endings.{owner_text, range_line, range_lines, ending}
-use Rattle.trace.proofs.Writing.{decimal-length, hex_length, numbered_length}
+use Rattle.trace.proofs.Writing.{parts, decimal-length, hex_length, numbered_length}
 use Rattle.trace.proofs.SavedTexts.{state-length}
 
 -- ---- ranges
@@ -72,3 +72,6 @@ ending-length h map left =
       ranges-length map,
       numbered_length name left,
     )
+
+-- how long the parts of an ending are
+pub ruleset lengths = (parts, owner-length, range_length, ranges-length, state-length)

@@ -1,5 +1,5 @@
 -- A scrap read in its parts is read byte by byte. Assumes nothing.
-use Rattle.std.proofs.Common.{◌≡◌, ℕ, zero, suc, ◌+◌, ◌-◌, ◌*◌, ◌/◌, ◌≤◌, min, Bool, true, false, cond, ◌||◌, eqb, ltb, List, [], ◌++◌, length, take, drop, sym, refl, ap, ◌∙◌, zero-add, arith, length-drop, length-take, take_all, drop-drop, take-add, ltb-false, ltb-true, ne_eqb, eqb-true}
+use Rattle.std.proofs.Common.{◌≡◌, ℕ, zero, suc, ◌+◌, ◌-◌, ◌*◌, ◌/◌, ◌≤◌, min, Bool, true, false, cond, ◌||◌, eqb, ltb, List, [], ◌++◌, length, take, drop, sym, refl, ap, ◌∙◌, zero-add, arith, length-drop, length-take, take_all, drop-drop, take-add, ltb-false, ltb-true, ne_eqb, eqb-true, ◌⊎◌, inl, inr, ◌<◌}
 use mathlib.Core.Bool.{false≢true}
 use borrow.Author.Tests.{eqb-false}
 use Rattle.bits.specs.Fold.{fold, outputs}
@@ -13,7 +13,7 @@ use Rattle.trace.specs.Parts.{unopened, wholes_in, further_in}
 use Rattle.trace.proofs.Readers.{Kept}
 use Rattle.trace.proofs.OneByte.{bytes-ignored}
 use Rattle.trace.proofs.Bytes.{Read, read_both, bytes_record, bytes-ending, bytes_body, ending}
-use Rattle.trace.proofs.Parts.{further_fits, Body, body_numbers}
+use Rattle.trace.proofs.Parts.{Body, body_numbers}
 
 -- bytes beyond the end are none
 take-least : (k e : ℕ) (s : List ℕ) → e ≡ min k (length s) → take k s ≡ take e s
@@ -98,37 +98,29 @@ module _ (m : Memory) (r : Replay) (room : ℕ) (scrap : List ℕ) where
         let c = suc k in
         let z : e ≡ 0 = omega (arith, ee, no_whole) in
         let ft : t ≡ further_in (length scrap) c = et ∙ (λ j. further_in (less j) c) in
-        let none = bytes-ending m r (take c carried) (take t scrap) (left_kept c h) (omega (arith, left-length c h, length-take t scrap, ft, further_fits (length scrap) c h)) in
+        let none = bytes-ending m r (take c carried) (take t scrap) (left_kept c h) (omega (arith, left-length c h, length-take t scrap, ft)) in
         rw (no_whole, z)
-        (parted (take c carried) r (take c carried ++ take t scrap) (0 + t) [] (sum (eqb room 0) refl (ltb (59 - c) (length scrap)) refl)
-        (rw (zero-add t) none))
+        (parted (take c carried) r (take c carried ++ take t scrap) (0 + t) [] sum (rw (zero-add t) none))
       where
         no_whole : n ≡ 0
-        no_whole = en ∙ (λ j. cond (ne_eqb (suc k) 0 (λ x. omega arith) j) (cond (ltb (length scrap / 60) room) (length scrap / 60) room) 0)
+        no_whole = en ∙ (λ j. cond (ne_eqb (suc k) 0 (λ x. omega arith) j) (min (length scrap / 60) room) 0)
 
         less : length scrap - e ≡ length scrap
         less = omega (arith, ee, no_whole)
 
         -- there is no room, or the scrap is too short
-        sum : (a : Bool) → eqb room 0 ≡ a → (b : Bool) → ltb (59 - suc k) (length scrap) ≡ b
-            → 0 + t ≡ min ((60 * room + 59) - length (take (suc k) carried)) (length scrap)
-        sum true p true q =
-            let l = ltb-true (59 - suc k) (length scrap) q in
-            let z = eqb-true room 0 p in
-            omega (arith, left-length (suc k) h, et ∙ (λ j. further_in (less j) (suc k)) ∙ (λ j. cond (q j) (59 - suc k) (length scrap)))
-        sum true p false q =
-            let l = ltb-false (59 - suc k) (length scrap) q in
-            let z = eqb-true room 0 p in
-            omega (arith, left-length (suc k) h, et ∙ (λ j. further_in (less j) (suc k)) ∙ (λ j. cond (q j) (59 - suc k) (length scrap)))
-        sum false p true q =
-            let l = ltb-true (59 - suc k) (length scrap) q in
-            let way : unopened (suc k) room (length scrap) ≡ ltb (length scrap) (60 - suc k) =
-            λ j. ne_eqb (suc k) 0 (λ x. omega arith) j || (p j || ltb (length scrap) (60 - suc k)) in
-            let s = sym way ∙ u in
-            absurd (omega (arith, ltb-true (length scrap) (60 - suc k) s))
-        sum false p false q =
-            let l = ltb-false (59 - suc k) (length scrap) q in
-            omega (arith, left-length (suc k) h, eqb-false room 0 p, et ∙ (λ j. further_in (less j) (suc k)) ∙ (λ j. cond (q j) (59 - suc k) (length scrap)))
+        short : (a b : Bool) → eqb room 0 ≡ a → ltb (length scrap) (60 - suc k) ≡ b → (a || b) ≡ true → (room ≡ 0) ⊎ (length scrap < 60 - suc k)
+        short true b p q u = inl (eqb-true room 0 p)
+        short false b p q u = inr (ltb-true (length scrap) (60 - suc k) (q ∙ u))
+
+        sum : 0 + t ≡ min ((60 * room + 59) - length (take (suc k) carried)) (length scrap)
+        sum =
+            let way = sym (λ j. ne_eqb (suc k) 0 (λ x. omega arith) j || (eqb room 0 || ltb (length scrap) (60 - suc k))) ∙ u in
+            let tt = et ∙ (λ j. further_in (less j) (suc k)) in
+            elim (short (eqb room 0) (ltb (length scrap) (60 - suc k)) refl refl way) [
+              | inl z ↦ omega (arith, left-length (suc k) h, tt, z)
+              | inr z ↦ omega (arith, left-length (suc k) h, tt, z)
+            ]
 
     -- the record begun before is completed
     pub opened_parts : (count n e t : ℕ) → count ≤ 59 → unopened count room (length scrap) ≡ false → n ≡ wholes_in (room - 1) (length scrap - (60 - count)) 0

@@ -1,10 +1,9 @@
 -- What one byte does: it is ignored, kept, or completes a record. And what follows for bytes in a row. Assumes nothing.
-use Rattle.std.proofs.Common.{◌≡◌, ℕ, suc, ◌+◌, ◌-◌, ◌*◌, ◌%◌, ◌^◌, ◌<◌, ◌≤◌, Bool, true, false, ltb, List, [], ◌∷◌, ◌++◌, length, take, drop, sym, refl, ap, ◌∙◌, subst, append-nil, arith, length-append, drop-drop, drop_at, ltb-false, ltb-true, le-ltb, lt-ltb}
+use Rattle.std.proofs.Common.{◌≡◌, ℕ, suc, ◌+◌, ◌-◌, ◌*◌, ◌%◌, ◌^◌, ◌<◌, ◌≤◌, Bool, true, false, ltb, List, [], ◌∷◌, ◌++◌, length, take, drop, sym, refl, ap, ◌∙◌, subst, append-nil, arith, length-append, drop-drop, drop_at, ltb-false, ltb-true, le-ltb, lt-ltb, Option, Some, None}
 use mathlib.Core.Bool.{false≢true}
 use lib.Seq.{append_snoc}
 use Rattle.bits.specs.Fold.{fold, outputs}
-use Rattle.steps.specs.declared.Decoded.{Decoded}
-use Rattle.steps.specs.declared.Decoded.TheVariants.{Formed, Nothing}
+use Rattle.steps.specs.declared.Step.{Step}
 use Rattle.paging.specs.Memory.{Memory}
 use Rattle.records.specs.Records.{read_step}
 use Rattle.trace.specs.Replies.{Reply, Broken}
@@ -35,7 +34,7 @@ module _ (m : Memory) where
 
     pub byte_cases : (x.replay.stopped ≡ true → P x [])
         → (x.replay.stopped ≡ false → length x.left < 59 → P (reading x.replay (x.left ++ b ∷ [])) [])
-        → (x.replay.stopped ≡ false → 59 ≤ length x.left → (d : Decoded) → P (reading (after_decoded m x.replay d) []) (reply_to m x.replay d ∷ []))
+        → (x.replay.stopped ≡ false → 59 ≤ length x.left → (d : Option Step) → P (reading (after_decoded m x.replay d) []) (reply_to m x.replay d ∷ []))
         → P (after_byte m x b) (byte_replies m x b)
     byte_cases ignored kept judged = go x.replay.stopped refl (ltb (length x.left) 59) refl
       where
@@ -104,13 +103,13 @@ module _ (m : Memory) where
       (λ p l d. judged d (λ y t. number_on bs y t))
       h
     where
-      judged : (d : Decoded) →
+      judged : (d : Option Step) →
           let y = reading (after_decoded m x.replay d) [] in
           ((z : Reading) → z.replay.number < 2 ^ 64 → (after_bytes m z bs).replay.stopped ≡ false
           → (after_bytes m z bs).replay.number ≡ (z.replay.number + length (replies_to m z bs)) % 2 ^ 64)
           → (after_bytes m y bs).replay.stopped ≡ false → (after_bytes m y bs).replay.number ≡ (x.replay.number + suc (length (replies_to m y bs))) % 2 ^ 64
-      judged (Formed step) on e = omega (arith, on (reading (after_decoded m x.replay (Formed step)) []) (omega arith) e)
-      judged Nothing on e = absurd (went_on (reading (stopped_at x.replay) []) bs refl e)
+      judged (Some step) on e = omega (arith, on (reading (after_decoded m x.replay (Some step)) []) (omega arith) e)
+      judged None on e = absurd (went_on (reading (stopped_at x.replay) []) bs refl e)
 
   -- ---- where refusal 8 comes
 
@@ -130,15 +129,15 @@ module _ (m : Memory) where
       (λ p l d. judged d (λ y t. stops bs y t))
       h
     where
-      judged : (d : Decoded) →
+      judged : (d : Option Step) →
           let y = reading (after_decoded m x.replay d) [] in
           ((z : Reading) → z.replay.stopped ≡ false → (after_bytes m z bs).replay.stopped ≡ true
           → Stops (replies_to m z bs) z.replay.number (after_bytes m z bs).replay.number)
           → (after_bytes m y bs).replay.stopped ≡ true → Stops (reply_to m x.replay d ∷ replies_to m y bs) x.replay.number (after_bytes m y bs).replay.number
-      judged (Formed step) on e =
-          let y = reading (after_decoded m x.replay (Formed step)) [] in
+      judged (Some step) on e =
+          let y = reading (after_decoded m x.replay (Some step)) [] in
           let l = replies_to m y bs in
-          let a = reply_to m x.replay (Formed step) in
+          let a = reply_to m x.replay (Some step) in
           let r = on y refl e in
           let k : suc (length l) - 1 ≡ suc (length l - 1) = omega (arith, r.some) in
           record {
@@ -146,7 +145,7 @@ module _ (m : Memory) where
             last = ap (λ (t : List Reply). a ∷ t) r.last ∙ ap (λ (i : ℕ). take i (a ∷ l) ++ Broken (after_bytes m y bs).replay.number ∷ []) (sym k);
             number = λ b. r.number (omega arith) ∙ omega (arith, r.some);
           }
-      judged Nothing on e =
+      judged None on e =
           let y = reading (stopped_at x.replay) [] in
           let i = bytes-ignored y refl bs in
           let n = x.replay.number in

@@ -1,5 +1,5 @@
 -- Refusal 8 comes exactly where a record names no step. Assumes nothing.
-use Rattle.std.proofs.Common.{◌≡◌, ℕ, zero, suc, ◌^◌, ◌<◌, ◌≤◌, Bool, true, false, cond, not, ◌&&◌, ◌||◌, eqb, ltb, leb, List, [], ◌∷◌, ◌++◌, length, get_or, sym, refl, ap, ◌∙◌, true≢false, arith, eq-eqb, ne_eqb, eqb-true, leb-false, leb-true}
+use Rattle.std.proofs.Common.{◌≡◌, ℕ, zero, suc, ◌^◌, ◌<◌, ◌≤◌, Bool, true, false, cond, not, ◌&&◌, ◌||◌, eqb, ltb, leb, List, [], ◌∷◌, ◌++◌, length, get_or, sym, refl, ap, ◌∙◌, true≢false, arith, eq-eqb, eqb-true, leb-false, leb-true, Option, Some, None}
 use mathlib.Core.Bool.{false≢true}
 use Rattle.bits.specs.Lists.{Words}
 use Rattle.bits.specs.Mask.{within}
@@ -12,23 +12,22 @@ use Rattle.pmp.specs.Number.{fault_cause}
 use Rattle.lines.specs.Lines.{lines_of, lines_length, words_in, is_text, bytes_of, hex_digits, line_of, number_at, places_of}
 use Rattle.lines.proofs.Back.{words_found, text-only}
 use Rattle.lines.proofs.Reading.{lines-length}
-use Rattle.steps.specs.declared.Decoded.{Decoded}
-use Rattle.steps.specs.declared.Decoded.TheVariants.{Formed, Nothing}
 use Rattle.steps.specs.declared.Operation.{Operation}
 use Rattle.steps.specs.declared.Event.{Event}
 use Rattle.steps.specs.declared.Event.TheVariants.{Raise, Lines, TakeInterrupt, Mret, Sret, Wfi, Ecall, Ebreak, Advance, Elapsed}
 use Rattle.steps.specs.declared.Step.{Step}
 use Rattle.steps.specs.declared.Step.TheVariants.{Reset, Csr, Access as AccessStep, Event as EventStep}
 use Rattle.steps.specs.declared.Answer.{Answer}
+use Rattle.pmp.specs.declared.Refusal.{Refusal}
+use Rattle.pmp.specs.Number.{refusal_number}
 use Rattle.steps.specs.declared.Answer.TheVariants.{Done, DoneValue, DoneFlag, Granted, Trapped, Refused}
 use Rattle.steps.specs.Decode.{decoded, is_access}
-use Rattle.steps.proofs.NumberLaws.{number-formed}
+use Rattle.steps.proofs.NumberLaws.{number-formed, none-formed}
 use Rattle.registers.specs.Masks.{lines_mask}
 use Rattle.protection.specs.Read.{is_pmp}
 use Rattle.paging.specs.declared.Context.{Context}
-use Rattle.paging.specs.declared.Reached.{Reached}
 use Rattle.paging.specs.Memory.{Memory, lawful}
-use Rattle.paging.specs.Access.{page_fault_cause, reached}
+use Rattle.paging.specs.Access.{Reached, page_fault_cause, reached}
 use Rattle.paging.proofs.Answered.{Answered as Judged, grants, faults, page_faults, reached_unlawful, reached_missized, reached-answered}
 use Rattle.state.specs.declared.State.{State}
 use Rattle.state.specs.Hold.{can_hold}
@@ -78,36 +77,10 @@ module _ (step a b : ℕ) where
 
 -- ---- step numbers
 
--- no step has a number above 17
-unknown : (step a b : ℕ) → 17 < step → decoded step a b ≡ Nothing
-unfolding decoded
-unknown step a b h =
-    let other : (n : ℕ) → n ≤ 17 → eqb step n ≡ false = λ n l. ne_eqb step n (λ e. omega arith) in
-    rw (
-      other 0 (omega arith),
-      other 1 (omega arith),
-      other 2 (omega arith),
-      other 3 (omega arith),
-      other 4 (omega arith),
-      other 5 (omega arith),
-      other 6 (omega arith),
-      other 7 (omega arith),
-      other 8 (omega arith),
-      other 9 (omega arith),
-      other 10 (omega arith),
-      other 11 (omega arith),
-      other 12 (omega arith),
-      other 13 (omega arith),
-      other 14 (omega arith),
-      other 15 (omega arith),
-      other 16 (omega arith),
-      other 17 (omega arith),
-    )
-
-formed-not : (s : Step) → Formed s ≡ Nothing → ⊥
+formed-not : (s : Step) → Some s ≡ None → ⊥
 formed-not s e = let z : ◌≡◌ {A = ℕ} 0 1 = cc in absurd (omega arith)
 
-formed : (step a b : ℕ) → step ≤ 17 → decoded step a b ≡ Nothing → ⊥
+formed : (step a b : ℕ) → step ≤ 17 → decoded step a b ≡ None → ⊥
 formed step a b h e = let f = number-formed step a b h in formed-not f.step (sym f.formed ∙ e)
 
 -- ---- a record's bytes
@@ -141,28 +114,28 @@ module _ (text : List ℕ) where
   named step a b n =
       let u = unused-zero step a b n.first n.second in
       ap (λ (t : List ℕ). record_step (read_record t)) n.lines ∙ ap record_step (record_back step a b n.words)
-      ∙ (λ j. cond (u j) (decoded step a b) Nothing)
+      ∙ (λ j. cond (u j) (decoded step a b) None)
 
-  only : read_step text ≡ Nothing → NamesNone text
+  only : read_step text ≡ None → NamesNone text
   only e step a b n = formed step a b n.known (sym (named step a b n) ∙ e)
 
   -- a record in the form, whose number or whose unused arguments name no step
   none_named : (step a b : ℕ) → Words 3 (step ∷ a ∷ b ∷ []) → text ≡ record_of step a b → NamesNone text
-      → cond (unused_are_zero step a b) (decoded step a b) Nothing ≡ Nothing
+      → cond (unused_are_zero step a b) (decoded step a b) None ≡ None
   none_named step a b w t h = go (unused_are_zero step a b) refl (leb step 17) refl
     where
-      go : (u : Bool) → unused_are_zero step a b ≡ u → (k : Bool) → leb step 17 ≡ k → cond u (decoded step a b) Nothing ≡ Nothing
+      go : (u : Bool) → unused_are_zero step a b ≡ u → (k : Bool) → leb step 17 ≡ k → cond u (decoded step a b) None ≡ None
       go false p k q = refl
-      go true p false q = unknown step a b (leb-false step 17 q)
+      go true p false q = none-formed step a b (leb-false step 17 q)
       go true p true q =
           let z = zero-unused step a b p in
           absurd (h step a b (record { words = w; lines = t; known = leb-true step 17 q; first = z.0; second = z.1 }))
 
-  none : NamesNone text → read_step text ≡ Nothing
+  none : NamesNone text → read_step text ≡ None
   unfolding read_record record_step read_step
   none h = go (is_text keys text) refl
     where
-      go : (r : Bool) → is_text keys text ≡ r → read_step text ≡ Nothing
+      go : (r : Bool) → is_text keys text ≡ r → read_step text ≡ None
       go true p =
           let ws = words_in keys text in
           rw p (none_named (get_or ws 0 0) (get_or ws 1 0) (get_or ws 2 0) (words-three text) (text-three text p) h)
@@ -177,18 +150,18 @@ module _ (m : Memory) (x : Reading) (b : ℕ) (h : Completes x) where
   full : (after_byte m x b ≡ reading (after_decoded m x.replay (read_step text)) []) × (byte_replies m x b ≡ reply_to m x.replay (read_step text) ∷ [])
   full = byte_full m x b h.reads (omega (arith, h.short))
 
-  judged : (d : Decoded) → read_step text ≡ d → (byte_replies m x b ≡ reply_to m x.replay d ∷ []) × (after_byte m x b ≡ reading (after_decoded m x.replay d) [])
+  judged : (d : Option Step) → read_step text ≡ d → (byte_replies m x b ≡ reply_to m x.replay d ∷ []) × (after_byte m x b ≡ reading (after_decoded m x.replay d) [])
   judged d e = (full.1 ∙ (λ j. reply_to m x.replay (e j) ∷ []), full.0 ∙ (λ j. reading (after_decoded m x.replay (e j)) []))
 
   refused-only : (number : ℕ) → byte_replies m x b ≡ Broken number ∷ [] → NamesNone text
   refused-only number e = go (read_step text) refl
     where
-      go : (d : Decoded) → read_step text ≡ d → NamesNone text
-      go (Formed s) p =
-          let q = sym (judged (Formed s) p).0 ∙ e in
+      go : (d : Option Step) → read_step text ≡ d → NamesNone text
+      go (Some s) p =
+          let q = sym (judged (Some s) p).0 ∙ e in
           let z : ◌≡◌ {A = ℕ} 0 1 = cc in
           absurd (omega arith)
-      go Nothing p = only text p
+      go None p = only text p
 
 -- ---- no step answers refusal 8
 
@@ -198,7 +171,7 @@ is_eight (DoneValue old) = false
 is_eight (DoneFlag flag) = false
 is_eight (Granted entry) = false
 is_eight (Trapped trap level entry) = false
-is_eight (Refused number) = eqb number 8
+is_eight (Refused refusal) = eqb (refusal_number refusal) 8
 
 abbrev Other : Effect → Type 0
 Other e = is_eight e.answer ≡ false
@@ -209,7 +182,7 @@ unrefused-other (DoneValue old) h = refl
 unrefused-other (DoneFlag flag) h = refl
 unrefused-other (Granted entry) h = refl
 unrefused-other (Trapped trap level entry) h = refl
-unrefused-other (Refused number) h = absurd (true≢false h)
+unrefused-other (Refused refusal) h = absurd (true≢false h)
 
 module _ (s : State) where
   quiet_other : (b : Bool) (o : Outcome) → Quiet s.registers b o → Other (on_registers s o)
@@ -271,9 +244,9 @@ module _ (s : State) where
 
     rule_other : (step : Step) → Other (step_rule s m step)
     unfolding step_rule
-    rule_other step = by_test Other (is_reset step || can_hold s) (effect s m step) (refused s 3) (λ t. effect-other step) (λ t. refl)
+    rule_other step = by_test Other (is_reset step || can_hold s) (effect s m step) (refused s Refusal.State) (λ t. effect-other step) (λ t. refl)
 
-own : (m : Memory) (h : Hart) (map : Map) (s : Step) → (stepped h map m s).answer ≡ Refused 8 → ⊥
+own : (m : Memory) (h : Hart) (map : Map) (s : Step) → (stepped h map m s).answer ≡ Refused Refusal.Record → ⊥
 own m h map s e = true≢false (sym (ap is_eight (sym (ap (λ (r : Stepped). r.answer) (step_parts h map m s)) ∙ e)) ∙ rule_other h.state m s)
 
 pub refusal_eight : (m : Memory) → RefusalEight m
@@ -283,11 +256,11 @@ refusal_eight m = record {
   named = named;
   formed = formed;
   sixty = sixty;
-  refused = λ x b h n. judged m x b h Nothing (none (x.left ++ b ∷ []) n);
+  refused = λ x b h n. judged m x b h None (none (x.left ++ b ∷ []) n);
   refused-only = λ x b number h. refused-only m x b h number;
-  answered = λ x b step a b' s h n e. judged m x b h (Formed s) (named (x.left ++ b ∷ []) step a b' n ∙ e);
+  answered = λ x b step a b' s h n e. judged m x b h (Some s) (named (x.left ++ b ∷ []) step a b' n ∙ e);
   goes_on = λ x b step a b' n s h k e r.
-      let j = judged m x b h (Formed s) (named (x.left ++ b ∷ []) step a b' k ∙ e) in (
+      let j = judged m x b h (Some s) (named (x.left ++ b ∷ []) step a b' k ∙ e) in (
         j.0 ∙ (λ i. Answered (r i) (is_access s) ∷ []),
         ap (λ (y : Reading). y.replay.stopped) j.1,
         ap (λ (y : Reading). y.replay.number) j.1,

@@ -1,6 +1,8 @@
 -- The forms that are read and written, and what stands in a buffer behind a save or a conversion. Assumes nothing.
-use Rattle.std.proofs.Common.{◌≡◌, ℕ, ◌≤◌, Bool, true, false, cond, ◌&&◌, eqb, List, [], ◌++◌, length, drop, sym, refl, ap, ◌∙◌, zero-add, arith, ne_eqb, le-leb}
+use Rattle.std.proofs.Common.{◌≡◌, ℕ, ◌≤◌, Bool, true, false, cond, ◌&&◌, eqb, List, ◌++◌, length, drop, sym, refl, ap, ◌∙◌, zero-add, arith, le-leb, Option, Some, None}
 use lib.Seq.{sets, sets-eq}
+use Rattle.pmp.specs.declared.Refusal.{Refusal}
+use Rattle.pmp.specs.Number.{refusal_number}
 use Rattle.steps.specs.declared.Answer.{Answer}
 use Rattle.steps.specs.declared.Answer.TheVariants.{Done, Refused}
 use Rattle.steps.specs.Number.{refusal_of}
@@ -45,9 +47,9 @@ form-fits s = go (first_form_holds s) refl
 
 -- ---- lengths
 
-refused-length : (n : ℕ) → length (refused_line n) ≤ 1094
+refused-length : (r : Refusal) → length (refused_line r) ≤ 1094
 unfolding bytes_of
-refused-length n = omega (arith, numbered_length (bytes_of "refused ") n)
+refused-length r = omega (arith, numbered_length (bytes_of "refused ") (refusal_number r))
 
 text-fits : (form : Form) (ws : List ℕ) → length (text_of form ws) ≤ 1094
 text-fits form ws = omega (arith, text-length form ws, longest form)
@@ -56,9 +58,9 @@ pub state-length : (h : Hart) → length (state_text h) ≤ 1094
 unfolding state_text
 state-length h = go (can_hold h.state)
   where
-    go : (c : Bool) → length (cond c (text_for (form_for h.state) h) (refused_line 3)) ≤ 1094
+    go : (c : Bool) → length (cond c (text_for (form_for h.state) h) (refused_line Refusal.State)) ≤ 1094
     go true = text-fits (form_for h.state) (words_of h.state)
-    go false = refused-length 3
+    go false = refused-length Refusal.State
 
 pub converted-length : (to : Form) (t : List ℕ) → length (converted_output to t) ≤ 1094
 unfolding converted_output
@@ -68,11 +70,11 @@ converted-length to t = go (read_text (other to) t).ok (text_holds (other to) s)
     s = state_in (other to) t
 
     go : (ok held fits : Bool)
-        → length (cond ok (cond held (cond fits (text_of to (words_of s)) (refused_line 12)) (refused_line 5)) (refused_line 4)) ≤ 1094
+        → length (cond ok (cond held (cond fits (text_of to (words_of s)) (refused_line Refusal.Form)) (refused_line Refusal.TextState)) (refused_line Refusal.Text)) ≤ 1094
     go true true true = text-fits to (words_of s)
-    go true true false = refused-length 12
-    go true false fits = refused-length 5
-    go false held fits = refused-length 4
+    go true true false = refused-length Refusal.Form
+    go true false fits = refused-length Refusal.TextState
+    go false held fits = refused-length Refusal.Text
 
 -- ---- behind a call that was to write a text to a buffer, which has room
 
@@ -83,19 +85,19 @@ holds form b room = le-leb (length_of form) (length b) (omega (arith, longest fo
 abbrev pub Outcome : Form → Answer → List ℕ → List ℕ → ℕ → Type 0
 Outcome form a x after r = (r ≡ outcome_length form (refusal_of a)) × (after ≡ sets x 0 (refusal_text (refusal_of a)))
 
-module _ (form : Form) (a : Answer) (b : List ℕ) {n : ℕ} (e : n ≡ refusal_of a) where
-  pub none-refused : {r : ℕ} → n ≡ 0 → r ≡ length_of form → Outcome form a b b r
+module _ (form : Form) (a : Answer) (b : List ℕ) {n : Option Refusal} (e : n ≡ refusal_of a) where
+  pub none-refused : {r : ℕ} → n ≡ None → r ≡ length_of form → Outcome form a b b r
   none-refused z k = rw (← e, z) (k, refl)
 
-  pub refusal_put : {after : List ℕ} {r : ℕ} → (n ≡ 0 → ⊥) → Put b 0 (refused_line n) after r → Outcome form a b after r
-  refusal_put z put = rw (← e, ne_eqb n 0 z) (put.behind ∙ zero-add (length (refused_line n)), put.bytes)
+  pub refusal_put : {q : Refusal} {after : List ℕ} {r : ℕ} → n ≡ Some q → Put b 0 (refused_line q) after r → Outcome form a b after r
+  refusal_put {q} z put = rw (← e, z) (put.behind ∙ zero-add (length (refused_line q)), put.bytes)
 
 module _ (form : Form) (b : List ℕ) (room : 1094 ≤ length b) {a : Answer} {x after : List ℕ} {r : ℕ} (o : Outcome form a x after r) where
-  outcome-refused : (n : ℕ) → eqb n 0 ≡ false → a ≡ Refused n → x ≡ b → Put b 0 (refused_line n) after r
-  outcome-refused n z e f = record {
-    bytes = o.1 ∙ (λ j. sets (f j) 0 (refusal_text (refusal_of (e j)))) ∙ (λ j. sets b 0 (cond (z j) [] (refused_line n)));
+  outcome-refused : (q : Refusal) → a ≡ Refused q → x ≡ b → Put b 0 (refused_line q) after r
+  outcome-refused q e f = record {
+    bytes = o.1 ∙ (λ j. sets (f j) 0 (refusal_text (refusal_of (e j))));
     behind =
-        o.0 ∙ (λ j. outcome_length form (refusal_of (e j))) ∙ (λ j. cond (z j) (length_of form) (length (refused_line n))) ∙ sym (zero-add (length (refused_line n)));
+        o.0 ∙ (λ j. outcome_length form (refusal_of (e j))) ∙ sym (zero-add (length (refused_line q)));
   }
 
   outcome-done : (ws : List ℕ) → a ≡ Done → x ≡ written_to form ws b → Put b 0 (text_of form ws) after r
@@ -111,14 +113,14 @@ module _ (form : Form) (b : List ℕ) (room : 1094 ≤ length b) {a : Answer} {x
   -- ---- saving, in a form that can hold the state
 
   module _ (h : Hart) (e : a ≡ saved_answer form h b) (f : x ≡ saved_buffer form h b) where
-    save_unheld : can_hold h.state ≡ false → Put b 0 (refused_line 3) after r
+    save_unheld : can_hold h.state ≡ false → Put b 0 (refused_line Refusal.State) after r
     unfolding saved_answer saved_buffer
-    save_unheld p = outcome-refused 3 refl (e ∙ rw p) (f ∙ rw p)
+    save_unheld p = outcome-refused Refusal.State (e ∙ rw p) (f ∙ rw p)
 
     module _ (p : can_hold h.state ≡ true) where
-      save_unfit : form_holds form h.state ≡ false → Put b 0 (refused_line 12) after r
+      save_unfit : form_holds form h.state ≡ false → Put b 0 (refused_line Refusal.Form) after r
       unfolding saved_answer saved_buffer
-      save_unfit q = outcome-refused 12 refl (e ∙ rw (p, holds form b room, q)) (f ∙ rw (p, q))
+      save_unfit q = outcome-refused Refusal.Form (e ∙ rw (p, holds form b room, q)) (f ∙ rw (p, q))
 
       save-done : form_holds form h.state ≡ true → Put b 0 (text_for form h) after r
       unfolding saved_answer saved_buffer
@@ -131,7 +133,7 @@ module _ (form : Form) (b : List ℕ) (room : 1094 ≤ length b) {a : Answer} {x
       fits : form_holds form h.state ≡ true
       fits = ap (λ (g : Form). form_holds g h.state) i ∙ form-fits h.state
 
-      go : (c : Bool) → can_hold h.state ≡ c → Put b 0 (cond c (text_for (form_for h.state) h) (refused_line 3)) after r
+      go : (c : Bool) → can_hold h.state ≡ c → Put b 0 (cond c (text_for (form_for h.state) h) (refused_line Refusal.State)) after r
       go true p = rw (← i) (save-done h e f p fits)
       go false p = save_unheld h e f p
 
@@ -145,11 +147,11 @@ module _ (form : Form) (b : List ℕ) (room : 1094 ≤ length b) {a : Answer} {x
       s = state_in (other form) t
 
       go : (ok c d q : Bool) → can_hold s ≡ c → form_holds form s ≡ q
-          → a ≡ cond ok (cond (c && d) (saved_answer form (hart_with s) b) (Refused 5)) (Refused 4)
+          → a ≡ cond ok (cond (c && d) (saved_answer form (hart_with s) b) (Refused Refusal.TextState)) (Refused Refusal.Text)
           → x ≡ cond ok (cond (c && d) (saved_buffer form (hart_with s) b) b) b
-          → Put b 0 (cond ok (cond (c && d) (cond q (text_of form (words_of s)) (refused_line 12)) (refused_line 5)) (refused_line 4)) after r
-      go false c d q p h e f = outcome-refused 4 refl e f
-      go true false d q p h e f = outcome-refused 5 refl e f
-      go true true false q p h e f = outcome-refused 5 refl e f
+          → Put b 0 (cond ok (cond (c && d) (cond q (text_of form (words_of s)) (refused_line Refusal.Form)) (refused_line Refusal.TextState)) (refused_line Refusal.Text)) after r
+      go false c d q p h e f = outcome-refused Refusal.Text e f
+      go true false d q p h e f = outcome-refused Refusal.TextState e f
+      go true true false q p h e f = outcome-refused Refusal.TextState e f
       go true true true false p h e f = save_unfit (hart_with s) e f p h
       go true true true true p h e f = save-done (hart_with s) e f p h

@@ -1,5 +1,5 @@
 -- What feeding a piece and finishing a session leave, from what is done for them. Assumes nothing.
-use Rattle.std.proofs.Common.{◌≡◌, ℕ, ◌+◌, ◌-◌, ◌*◌, ◌/◌, ◌<◌, ◌≤◌, Bool, true, false, cond, not, ◌&&◌, eqb, ltb, List, [], ◌∷◌, ◌++◌, length, sym, refl, ap, ◌∙◌, subst, arith, take_all, le-ltb, lt-ltb, ne_eqb}
+use Rattle.std.proofs.Common.{◌≡◌, ℕ, ◌+◌, ◌-◌, ◌*◌, ◌/◌, ◌<◌, ◌≤◌, Bool, true, false, cond, not, ◌&&◌, eqb, ltb, List, [], ◌∷◌, ◌++◌, length, sym, refl, ap, ◌∙◌, subst, arith, take_all, le-ltb, lt-ltb}
 use Rattle.bits.proofs.FoldLaws.{fold_nil, fold_cons, fold_append}
 use Rattle.lines.specs.Lines.{bytes_of}
 use Rattle.paging.specs.Memory.{Memory}
@@ -10,6 +10,9 @@ use Rattle.trace.specs.declared.Progress.{Progress}
 use Rattle.trace.specs.declared.Session.{Session}
 use Rattle.trace.specs.declared.Written.{Written}
 use Rattle.trace.specs.Buffers.{Put, written_front, written_length}
+use Rattle.std.specs.Prelude.{Some, None}
+use Rattle.pmp.specs.declared.Refusal.{Refusal}
+use Rattle.pmp.specs.Number.{refusal_number}
 use Rattle.trace.specs.Answers.{refused_line}
 use Rattle.trace.specs.Replies.{Reply, reply_line, written}
 use Rattle.trace.specs.Reading.{Reading, after_bytes, replies_to}
@@ -85,7 +88,7 @@ module _ (m : Memory) where
     -- from what the reader does on the words of the hart, and the hart and map that are handed back
     module _ {p : Progress} {words left after : List ℕ} (h : s.more ≡ true) (big : length piece / 60 < length before / 64)
         (w : state_of words ≡ s.hart.state)
-        (f : FedBy m true s.reader s.map (length before / 64) piece words before p left after) where
+        (f : FedBy m reply_line s.reader s.map (length before / 64) piece words before p left after) where
       abbrev start : Reading
       start = reading_of s.reader (hart_with (state_of words)) s.map
 
@@ -158,7 +161,7 @@ module _ (s : Session) (before : List ℕ) where
   pub finish_small : length before < 4096 → Finishes s before before 0
   finish_small h = writing.not_written 4096 (session_ending s) before h
 
-  pub finish_done : (after : List ℕ) (filled : ℕ) {left : ℕ} → s.more ≡ false → 4096 ≤ length before → s.refusal ≡ 0
+  pub finish_done : (after : List ℕ) (filled : ℕ) {left : ℕ} → s.more ≡ false → 4096 ≤ length before → s.refusal ≡ None
       → left ≡ left_count s.reader.stopped s.reader.count → Put before 0 (ending s.hart s.map left) after filled
       → Finishes s before after filled
   unfolding session_ending
@@ -168,10 +171,10 @@ module _ (s : Session) (before : List ℕ) where
       rw (h, e) (writing.written 4096 (text count) before after filled room (ending-length s.hart s.map count)
       (subst (λ (n : ℕ). Put before 0 (text n) after filled) l put))
 
-  pub finish_refused : (after : List ℕ) (filled : ℕ) → s.more ≡ false → 4096 ≤ length before → (s.refusal ≡ 0 → ⊥)
-      → Put before 0 (refused_line s.refusal) after filled → Finishes s before after filled
+  pub finish_refused : (refusal : Refusal) (after : List ℕ) (filled : ℕ) → s.more ≡ false → 4096 ≤ length before → s.refusal ≡ Some refusal
+      → Put before 0 (refused_line refusal) after filled → Finishes s before after filled
   unfolding session_ending bytes_of
-  finish_refused after filled h room e put =
-      let line = refused_line s.refusal in
-      let short : length line ≤ 4096 = omega (arith, writing.numbered_length (bytes_of "refused ") s.refusal) in
-      rw (h, ne_eqb s.refusal 0 e) (writing.written 4096 line before after filled room short put)
+  finish_refused refusal after filled h room e put =
+      let line = refused_line refusal in
+      let short : length line ≤ 4096 = omega (arith, writing.numbered_length (bytes_of "refused ") (refusal_number refusal)) in
+      rw (h, e) (writing.written 4096 line before after filled room short put)

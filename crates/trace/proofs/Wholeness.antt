@@ -3,6 +3,8 @@ use Rattle.std.proofs.Common.{◌≡◌, ℕ, ◌<◌, min, Bool, true, false, c
 use mathlib.Core.Bool.{and-false}
 use Rattle.bits.specs.Fold.{fold, outputs}
 use Rattle.bits.proofs.FoldLaws.{fold_append, outputs_append}
+use Rattle.std.specs.Prelude.{is_none, Some, None}
+use Rattle.pmp.specs.declared.Refusal.{Refusal}
 use Rattle.steps.specs.Number.{refusal_of}
 use Rattle.steps.specs.declared.Answer.TheVariants.{Done, Refused}
 use Rattle.paging.specs.Memory.{Memory}
@@ -28,13 +30,13 @@ use Rattle.trace.proofs.SessionLaws.{session_kept, piece_still, piece_goes}
 
 -- ---- what a session writes at its end
 
-ending-written : (s : Session) → s.more ≡ false → s.refusal ≡ 0 → session_ending s ≡ ending s.hart s.map (left_count s.reader.stopped s.reader.count)
+ending-written : (s : Session) → s.more ≡ false → s.refusal ≡ None → session_ending s ≡ ending s.hart s.map (left_count s.reader.stopped s.reader.count)
 unfolding session_ending
 ending-written s h z = rw (h, z)
 
-refusal_written : (s : Session) → s.more ≡ false → (s.refusal ≡ 0 → ⊥) → session_ending s ≡ refused_line s.refusal
+refusal_written : (s : Session) (refusal : Refusal) → s.more ≡ false → s.refusal ≡ Some refusal → session_ending s ≡ refused_line refusal
 unfolding session_ending
-refusal_written s h e = rw (h, ne_eqb s.refusal 0 e)
+refusal_written s refusal h e = rw (h, e)
 
 none_written : (s : Session) → s.more ≡ true → session_ending s ≡ []
 unfolding session_ending
@@ -69,9 +71,10 @@ from-text text h map e = text-read text ∙ (λ j. read_session (e j))
 either_form : (form : Form) (text : List ℕ) → (read_text form text).ok ≡ true → from_text text ≡ read_anew form text
 either_form form text e = ap (λ (f : Form). read_anew f text) (form-read form text e)
 
-refused-text : (text : List ℕ) (n : ℕ) → (from_text text).answer ≡ Refused n → (n ≡ 0 → ⊥) → ((text_session text).more ≡ false) × ((text_session text).refusal ≡ n)
-refused-text text n e z = (
-  ap (λ (t : Session). t.more) (text-read text) ∙ (λ j. eqb (refusal_of (e j)) 0) ∙ ne_eqb n 0 z,
+refused-text : (text : List ℕ) (refusal : Refusal) → (from_text text).answer ≡ Refused refusal
+    → ((text_session text).more ≡ false) × ((text_session text).refusal ≡ Some refusal)
+refused-text text refusal e = (
+  ap (λ (t : Session). t.more) (text-read text) ∙ (λ j. is_none (refusal_of (e j))),
   ap (λ (t : Session). t.refusal) (text-read text) ∙ (λ j. refusal_of (e j)),
 )
 
@@ -131,13 +134,13 @@ module _ (m : Memory) where
     reading-left : (came : ℕ) → reading_in (continued s here came) ≡ here
     reading-left came = reading-back here here_kept
 
-    ending-left : (came : ℕ) → (continued s here came).more ≡ false → s.refusal ≡ 0 → session_ending (continued s here came) ≡ ending_of here
+    ending-left : (came : ℕ) → (continued s here came).more ≡ false → s.refusal ≡ None → session_ending (continued s here came) ≡ ending_of here
     ending-left came over z =
         ending-written (continued s here came) over z ∙ ap (ending here.replay.hart here.replay.map) (count_left here here_kept)
 
   -- ---- the claim
 
-  whole : (s : Session) (full : List (List ℕ)) (last : List ℕ) → s.more ≡ true → s.refusal ≡ 0 → AllFull full → length last < full_piece
+  whole : (s : Session) (full : List (List ℕ)) (last : List ℕ) → s.more ≡ true → s.refusal ≡ None → AllFull full → length last < full_piece
       → all_written m s (full ++ last ∷ []) ≡ replayed m (reading_in s) (joined full last)
   whole s [] last h z f l =
       let next = continued s (here s last) (length last) in
@@ -189,14 +192,15 @@ module _ (m : Memory) where
       → all_written m s (full ++ last ∷ []) ≡ replayed m (unread h map) (joined full last)
   begun-whole s h map full last e f l = (λ j. all_written m (e j) (full ++ last ∷ [])) ∙ whole (begun h map) full last refl refl f l
 
-  refused-writes : (s : Session) (pieces : List (List ℕ)) → s.more ≡ false → (s.refusal ≡ 0 → ⊥) → all_written m s pieces ≡ refused_line s.refusal
-  refused-writes s ps h e = ended-writes s h ps ∙ refusal_written s h e
+  refused-writes : (s : Session) (pieces : List (List ℕ)) (refusal : Refusal) → s.more ≡ false → s.refusal ≡ Some refusal
+      → all_written m s pieces ≡ refused_line refusal
+  refused-writes s ps refusal h e = ended-writes s h ps ∙ refusal_written s refusal h e
 
-  text-refused : (text : List ℕ) (n : ℕ) (pieces : List (List ℕ)) → (from_text text).answer ≡ Refused n → (n ≡ 0 → ⊥)
-      → all_written m (text_session text) pieces ≡ refused_line n
-  text-refused text n ps e z =
-      let r = refused-text text n e z in
-      refused-writes (text_session text) ps r.0 (λ q. z (sym r.1 ∙ q)) ∙ ap refused_line r.1
+  text-refused : (text : List ℕ) (refusal : Refusal) (pieces : List (List ℕ)) → (from_text text).answer ≡ Refused refusal
+      → all_written m (text_session text) pieces ≡ refused_line refusal
+  text-refused text refusal ps e =
+      let r = refused-text text refusal e in
+      refused-writes (text_session text) ps refusal r.0 r.1
 
   pub in_pieces : InPieces m
   in_pieces = record {

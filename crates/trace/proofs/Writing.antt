@@ -1,39 +1,33 @@
 -- Texts written one behind the other, and decimal numbers.
-use Rattle.std.proofs.Common.{◌≡◌, ℕ, zero, suc, ◌+◌, ◌-◌, ◌/◌, ◌%◌, ◌^◌, ◌<◌, ◌≤◌, Bool, true, false, cond, ltb, leb, List, [], ◌∷◌, ◌++◌, length, get_or, take, drop, set, sym, refl, ap, ◌∙◌, add-zero, pow-suc, zero-add, add-one, arith, length-append, drop_of_length-le, drop-cons, ltb-true, le-ltb, lt-ltb, le-leb, leb-false, leb-true}
+use Rattle.std.proofs.Common.{◌≡◌, ℕ, zero, suc, ◌+◌, ◌-◌, ◌/◌, ◌%◌, ◌^◌, ◌<◌, ◌≤◌, Bool, true, false, cond, ltb, leb, List, [], ◌∷◌, ◌++◌, length, get_or, take, drop, set, sym, refl, ap, ◌∙◌, add-zero, pow-suc, zero-add, add-one, arith, length-append, drop_of_length-le, drop-cons, le-ltb, lt-ltb, le-leb, leb-false, leb-true}
 use native.Mathlib.Nat.{pow-le-pow_right}
 use lib.Seq.{sets, length-sets, sets-eq}
 use Rattle.io.specs.Digits.{last_digits, hex_digit_ascii, IsDigitCount}
-use Rattle.pmp.specs.Rule.{none}
-use Rattle.lines.specs.Lines.{bytes_of, hex_digits}
+use Rattle.lines.specs.Lines.{hex_digits}
 use Rattle.lines.specs.Places.{with_word}
 use Rattle.trace.specs.Buffers.{Put, written_front, written_length}
-use Rattle.steps.specs.declared.Level.{Level}
-use Rattle.steps.specs.declared.Level.TheVariants.{Supervisor, Machine}
-use Rattle.steps.specs.declared.Trap.{Trap}
-use Rattle.steps.specs.declared.Trap.TheVariants.{Exception, Interrupt}
-use Rattle.steps.specs.declared.Answer.{Answer}
-use Rattle.steps.specs.declared.Answer.TheVariants.{Done, DoneValue, DoneFlag, Granted, Trapped, Refused}
-use Rattle.trace.specs.Answers.{decimal_in, decimal, numbered_line, trap_text, level_text, entry_text, told_text, answer_line, broken_line}
+use Rattle.trace.specs.Answers.{decimal_in, decimal}
+pub use Rattle.trace.specs.Widths.{decimal-length, decimal-entry, hex_length, trap_length, level_length, entry_length, told-length, numbered_length}
 
 -- ---- one text behind the other
 
-pub sets_append : (xs l : List ℕ) (i : ℕ) (ys : List ℕ) → sets l i (xs ++ ys) ≡ sets (sets l i xs) (i + length xs) ys
+pub sets_append : {A : Type 0} (xs l : List A) (i : ℕ) (ys : List A) → sets l i (xs ++ ys) ≡ sets (sets l i xs) (i + length xs) ys
 sets_append [] l i ys = rw (add-zero i)
 sets_append (x ∷ xs) l i ys =
     let e : i + suc (length xs) ≡ suc i + length xs = omega arith in
     rw e (sets_append xs (set l i x) (suc i) ys)
 
-pub put_both : {buffer middle after xs ys : List ℕ} {p q r : ℕ} → Put buffer p xs middle q → Put middle q ys after r → Put buffer p (xs ++ ys) after r
-put_both {buffer} {middle} {after} {xs} {ys} {p} {q} {r} first second = record {
+pub put_both : {A : Type 0} {buffer middle after xs ys : List A} {p q r : ℕ} → Put buffer p xs middle q → Put middle q ys after r → Put buffer p (xs ++ ys) after r
+put_both {A} {buffer} {middle} {after} {xs} {ys} {p} {q} {r} first second = record {
   bytes = second.bytes ∙ rw (first.bytes, first.behind) (sym (sets_append xs buffer p ys));
   behind = omega (arith, first.behind, second.behind, length-append xs ys);
 }
 
-pub put-none : (buffer : List ℕ) (p : ℕ) → Put buffer p [] buffer p
+pub put-none : {A : Type 0} (buffer : List A) (p : ℕ) → Put buffer p [] buffer p
 put-none buffer p = record { bytes = refl; behind = sym (add-zero p) }
 
-pub put-length : {buffer after xs : List ℕ} {p q : ℕ} → Put buffer p xs after q → length after ≡ length buffer
-put-length {buffer} {after} {xs} {p} put = ap length put.bytes ∙ length-sets buffer p xs
+pub put-length : {A : Type 0} {buffer after xs : List A} {p q : ℕ} → Put buffer p xs after q → length after ≡ length buffer
+put-length {A} {buffer} {after} {xs} {p} put = ap length put.bytes ∙ length-sets buffer p xs
 
 pub put-start : (text buffer : List ℕ) (p : ℕ) → sets buffer p text ≡ sets buffer (p + 0) (drop 0 text)
 put-start text buffer p = rw (add-zero p)
@@ -105,86 +99,6 @@ put_digit x buffer p h = rw (lt-ltb x 10 h) (record { bytes = refl; behind = ref
 pub front_decimal : (k x : ℕ) (d : List ℕ) → x < 2 ^ 64 → IsDigitCount 10 1 x k → take k d ≡ last_digits 10 k x → take k d ≡ decimal x
 front_decimal k x d h f e = e ∙ sym (decimal_is k x (fewest_short k x h f) f)
 
-pub decimal-length : (n x : ℕ) → length (decimal_in n x) ≤ n
-unfolding decimal_in
-decimal-length zero x = omega arith
-decimal-length (suc n) x = go (ltb x 10) (decimal-length n (x / 10))
-  where
-    go : (b : Bool) → length (decimal_in n (x / 10)) ≤ n → length (cond b ((48 + x) ∷ []) (decimal_in n (x / 10) ++ (48 + x % 10) ∷ [])) ≤ suc n
-    go true h = omega arith
-    go false h = omega (arith, length-append (decimal_in n (x / 10)) ((48 + x % 10) ∷ []))
-
--- an entry has at most two digits
-pub decimal-entry : (x : ℕ) → x < none → length (decimal x) ≤ 2
-unfolding decimal_in
-decimal-entry x h = go (ltb x 10)
-  where
-    tens : x / 10 < 10
-    tens = omega arith
-
-    go : (b : Bool) → length (cond b ((48 + x) ∷ []) (decimal_in 19 (x / 10) ++ (48 + x % 10) ∷ [])) ≤ 2
-    go true = omega arith
-    go false = rw (lt-ltb (x / 10) 10 tens) (omega arith)
-
--- ---- no line is longer than 64 bytes
-
-pub hex_length : (word : ℕ) → length (hex_digits 16 word) ≡ 16
-unfolding hex_digits
-hex_length word = refl
-
-pub trap_length : (trap : Trap) → length (trap_text trap) ≤ 30
-unfolding trap_text bytes_of
-trap_length (Exception cause) = omega (arith, decimal-length 20 cause)
-trap_length (Interrupt number) = omega (arith, decimal-length 20 number)
-
-pub level_length : (level : Level) → length (level_text level) ≡ 1
-unfolding level_text bytes_of
-level_length Supervisor = refl
-level_length Machine = refl
-
-pub entry_length : (entry : ℕ) → length (entry_text entry) ≤ 11
-unfolding entry_text bytes_of
-entry_length entry = go (ltb entry none) refl
-  where
-    go : (b : Bool) → ltb entry none ≡ b → length (bytes_of " entry " ++ cond b (decimal entry) (bytes_of "none")) ≤ 11
-    go true e = omega (arith, decimal-entry entry (ltb-true entry none e))
-    go false e = omega arith
-
-pub told-length : (accessed : Bool) (entry : ℕ) → length (told_text accessed entry) ≤ 11
-unfolding told_text
-told-length true entry = entry_length entry
-told-length false entry = omega arith
-
-pub numbered_length : (name : List ℕ) (number : ℕ) → length (numbered_line name number) ≤ length name + 21
-unfolding bytes_of
-numbered_length name number =
-    omega (arith, length-append name (decimal number ++ bytes_of "\n"), length-append (decimal number) (bytes_of "\n"), decimal-length 20 number)
-
-pub answer-length : (accessed : Bool) (answer : Answer) → length (answer_line accessed answer) ≤ 64
-unfolding answer_line bytes_of
-answer-length accessed Done = omega arith
-answer-length accessed (DoneValue old) = omega (arith, length-append (hex_digits 16 old) (10 ∷ []), hex_length old)
-answer-length accessed (DoneFlag true) = omega arith
-answer-length accessed (DoneFlag false) = omega arith
-answer-length accessed (Granted entry) = omega (arith, length-append (entry_text entry) (10 ∷ []), entry_length entry)
-answer-length accessed (Trapped trap level entry) =
-    let told = told_text accessed entry in
-    let rest = level_text level ++ (told ++ (10 ∷ [])) in
-    omega (
-      arith,
-      length-append (trap_text trap) (32 ∷ 116 ∷ 111 ∷ 32 ∷ rest),
-      trap_length trap,
-      length-append (level_text level) (told ++ (10 ∷ [])),
-      level_length level,
-      length-append told (10 ∷ []),
-      told-length accessed entry,
-    )
-answer-length accessed (Refused number) = omega (arith, numbered_length (bytes_of "refused ") number)
-
-pub broken-length : (number : ℕ) → length (broken_line number) ≤ 64
-unfolding broken_line bytes_of
-broken-length number = omega (arith, numbered_length (bytes_of "refused 8 record ") number)
-
 -- ---- a whole buffer
 
 pub nothing_written : (room : ℕ) (buffer : List ℕ)
@@ -209,3 +123,6 @@ module _ (room : ℕ) (text buffer : List ℕ) where
           omega (arith, put.behind),
         ),
       )
+
+-- what the answers for texts of several parts need: the parts one behind the other, and how long each is
+pub ruleset parts = (put_both, put-none, decimal-length, decimal-entry, hex_length, trap_length, level_length, entry_length, told-length)

@@ -1,5 +1,7 @@
 -- The line that answers a record. 02, [5]: a grant and the trap of an access tell the entry that decided, or none.
 use Rattle.std.specs.Prelude.{ℕ, zero, suc, ◌+◌, ◌/◌, ◌%◌, Bool, cond, List, [], ◌∷◌, ◌++◌, nat_lt}
+use Rattle.pmp.specs.declared.Refusal.{Refusal}
+use Rattle.pmp.specs.Number.{refusal_number}
 use Rattle.pmp.specs.Rule.{none}
 use Rattle.lines.specs.Lines.{bytes_of, hex_digits}
 use Rattle.steps.specs.declared.Level.{Level}
@@ -38,7 +40,7 @@ entry_text entry = bytes_of " entry " ++ cond (nat_lt entry none) (decimal entry
 unfoldable pub told_text : Bool → ℕ → List ℕ
 told_text accessed entry = cond accessed (entry_text entry) []
 
--- done with the old value of a CSR step, or with yes or no; granted; trapped with cause and destination mode; refused with a number
+-- done with the old value of a CSR step, or with yes or no; granted; trapped with cause and destination mode; refused with its number
 abbrev pub value_line : ℕ → List ℕ
 value_line old = bytes_of "done " ++ (hex_digits 16 old ++ bytes_of "\n")
 
@@ -52,8 +54,8 @@ abbrev pub trapped_line : Bool → Trap → Level → ℕ → List ℕ
 trapped_line accessed trap level entry =
     bytes_of "trapped " ++ (trap_text trap ++ (bytes_of " to " ++ (level_text level ++ (told_text accessed entry ++ bytes_of "\n"))))
 
-abbrev pub refused_line : ℕ → List ℕ
-refused_line number = numbered_line (bytes_of "refused ") number
+abbrev pub refused_line : Refusal → List ℕ
+refused_line refusal = numbered_line (bytes_of "refused ") (refusal_number refusal)
 
 -- the line of an answer, to a step that is an access or to another
 unfoldable pub answer_line : Bool → Answer → List ℕ
@@ -62,7 +64,7 @@ answer_line accessed (DoneValue old) = value_line old
 answer_line accessed (DoneFlag flag) = flag_line flag
 answer_line accessed (Granted entry) = granted_line entry
 answer_line accessed (Trapped trap level entry) = trapped_line accessed trap level entry
-answer_line accessed (Refused number) = refused_line number
+answer_line accessed (Refused refusal) = refused_line refusal
 
 -- refusal 8, with the record's number
 unfoldable pub broken_line : ℕ → List ℕ

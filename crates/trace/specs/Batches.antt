@@ -8,7 +8,7 @@ use Rattle.map.specs.declared.Map.{Map}
 use Rattle.hart.specs.Steps.{map_for, hart_with}
 use Rattle.trace.specs.declared.Cursor.{Cursor}
 use Rattle.trace.specs.Buffers.{Put}
-use Rattle.trace.specs.Replies.{Reply, written, text_by}
+use Rattle.trace.specs.Replies.{Reply, written}
 use Rattle.trace.specs.Reading.{Replay, after_record, record_replies}
 
 -- n records of 60 bytes each
@@ -30,12 +30,12 @@ carried s remap map number stopped = record { hart = hart_with s; map = cond rem
 abbrev pub carried_by : Cursor → List ℕ → Map → Replay
 carried_by c words map = carried (state_of words) c.remap map c.number c.stopped
 
--- what a batch does with a map that is given
-pub record Batched (m : Memory) (output : Bool) (texts : List (List ℕ)) (map : Map) (start : Cursor) (before buffer : List ℕ)
-    (end : Cursor) (words after : List ℕ) : Type 0 where
+-- what a batch does with a map that is given, where each reply is written as a text
+pub record Batched {A : Type 0} (m : Memory) (text : Reply → List A) (texts : List (List ℕ)) (map : Map) (start : Cursor) (before : List ℕ) (buffer : List A)
+    (end : Cursor) (words : List ℕ) (after : List A) : Type 0 where
   pub replay : after_records m (carried_by start before map) texts ≡ carried_by end words map
-  pub put : Put buffer start.filled (written (text_by output) (records_replies m (carried_by start before map) texts)) after end.filled
+  pub put : Put buffer start.filled (written text (records_replies m (carried_by start before map) texts)) after end.filled
 
 -- no map is read, so it is any
-abbrev pub Batch : Memory → Bool → List (List ℕ) → Cursor → List ℕ → List ℕ → Cursor → List ℕ → List ℕ → Type 0
-Batch m output texts start before buffer end words after = (map : Map) → Batched m output texts map start before buffer end words after
+abbrev pub Batch : {A : Type 0} → Memory → (Reply → List A) → List (List ℕ) → Cursor → List ℕ → List A → Cursor → List ℕ → List A → Type 0
+Batch m text texts start before buffer end words after = (map : Map) → Batched m text texts map start before buffer end words after

@@ -2,8 +2,8 @@
 use Rattle.std.specs.Prelude.{◌≡◌, ℕ, ◌+◌, cond, List, ◌++◌, length, drop, nat_lt}
 use Rattle.std.proofs.lemmas.List.Edits.{sets}
 
--- the text stands in the buffer from a place on, and `next` is the place behind it
-pub record Put (buffer : List ℕ) (place : ℕ) (text after : List ℕ) (next : ℕ) : Type 0 where
+-- the text, of words or bytes, stands in the buffer from a place on, and `next` is the place behind it
+pub record Put {A : Type 0} (buffer : List A) (place : ℕ) (text after : List A) (next : ℕ) : Type 0 where
   pub bytes : after ≡ sets buffer place text
   pub behind : next ≡ place + length text
 

@@ -6,7 +6,7 @@ use Rattle.state.specs.Words.{state_of}
 use Rattle.map.specs.declared.Map.{Map}
 use Rattle.hart.specs.declared.Hart.{Hart}
 use Rattle.hart.specs.Steps.{map_for, hart_with}
-use Rattle.trace.specs.Replies.{Reply, reply_numbers, written, text_by}
+use Rattle.trace.specs.Replies.{Reply, reply_numbers, written}
 use Rattle.trace.specs.declared.Fed.{Fed}
 use Rattle.trace.specs.declared.Reader.{Reader}
 use Rattle.trace.specs.declared.Progress.{Progress}
@@ -54,22 +54,23 @@ module _ (m : Memory) where
   abbrev pub taken_by : Reading → ℕ → List ℕ → ℕ
   taken_by x room scrap = cond (after_feed x room scrap).replay.stopped (length scrap) (length (answerable x room scrap))
 
--- what a feed on the words of a hart does with a map that is given; the fresh one, where it is asked for, is that of the words left
-pub record FedBy (m : Memory) (output : Bool) (rd : Reader) (given : Map) (room : ℕ) (scrap before buffer : List ℕ)
-    (p : Progress) (words after : List ℕ) : Type 0 where
+-- what a feed on the words of a hart does with a map that is given, where each reply is written as a text; the fresh map, where it is asked for, is that of
+-- the words left
+pub record FedBy {A : Type 0} (m : Memory) (text : Reply → List A) (rd : Reader) (given : Map) (room : ℕ) (scrap before : List ℕ) (buffer : List A)
+    (p : Progress) (words : List ℕ) (after : List A) : Type 0 where
   pub reader : p.reader ≡ reader_of (after_feed m (reading_of rd (hart_with (state_of before)) given) room scrap)
   pub hart : hart_with (state_of words) ≡ (after_feed m (reading_of rd (hart_with (state_of before)) given) room scrap).replay.hart
   pub map : cond p.remap (map_for (state_of words).pmp) given ≡ (after_feed m (reading_of rd (hart_with (state_of before)) given) room scrap).replay.map
   pub taken : p.taken ≡ taken_by m (reading_of rd (hart_with (state_of before)) given) room scrap
-  pub put : Put buffer 0 (written (text_by output) (feed_replies m (reading_of rd (hart_with (state_of before)) given) room scrap)) after p.filled
+  pub put : Put buffer 0 (written text (feed_replies m (reading_of rd (hart_with (state_of before)) given) room scrap)) after p.filled
 
 -- no map is read, so it is any
-abbrev pub Feeds : Memory → Bool → Reader → ℕ → List ℕ → List ℕ → List ℕ → Progress → List ℕ → List ℕ → Type 0
-Feeds m output rd room scrap before buffer p words after = (map : Map) → FedBy m output rd map room scrap before buffer p words after
+abbrev pub Feeds : {A : Type 0} → Memory → (Reply → List A) → Reader → ℕ → List ℕ → List ℕ → List A → Progress → List ℕ → List A → Type 0
+Feeds m text rd room scrap before buffer p words after = (map : Map) → FedBy m text rd map room scrap before buffer p words after
 
 -- with a slice for the answers, four words each
 abbrev pub FeedsWords : Memory → Reader → List ℕ → List ℕ → List ℕ → Progress → List ℕ → List ℕ → Type 0
-FeedsWords m rd scrap before answers p words after = Feeds m false rd (length answers / 4) scrap before answers p words after
+FeedsWords m rd scrap before answers p words after = Feeds m reply_numbers rd (length answers / 4) scrap before answers p words after
 
 -- by value
 unfoldable pub fed : Memory → Reader → Hart → Map → ℕ → List ℕ → Fed

@@ -1,6 +1,7 @@
 -- A claim over whole traces: full pieces and a shorter last one write what the trace at once gives, from either start, with the same memory lent at each
 -- record (02, [8]).
-use Rattle.std.specs.Prelude.{◌≡◌, ℕ, ◌<◌, true, false, List, [], ◌∷◌, ◌++◌, length, ◌≢◌}
+use Rattle.std.specs.Prelude.{◌≡◌, ℕ, ◌<◌, true, false, List, [], ◌∷◌, ◌++◌, length, ◌≢◌, Some, None}
+use Rattle.pmp.specs.declared.Refusal.{Refusal}
 use Rattle.steps.specs.declared.Answer.TheVariants.{Done, Refused}
 use Rattle.paging.specs.Memory.{Memory}
 use Rattle.map.specs.declared.Map.{Map}
@@ -39,7 +40,7 @@ abbrev pub unread : Hart → Map → Reading
 unread h map = reading (record { hart = h; map = map; number = 0; stopped = false }) []
 
 abbrev pub begun : Hart → Map → Session
-begun h map = record { reader = new_reader; hart = h; map = map; more = true; refusal = 0 }
+begun h map = record { reader = new_reader; hart = h; map = map; more = true; refusal = None }
 
 -- a text whose length tells the form, read back
 abbrev pub from_text : List ℕ → Stepped
@@ -47,15 +48,15 @@ from_text text = read_anew (form_by_length text) text
 
 pub record InPieces (m : Memory) : Type 0 where
   -- full pieces and a shorter last one, from any session that has not ended
-  pub whole : (start : Session) (full : List (List ℕ)) (last : List ℕ) → start.more ≡ true → start.refusal ≡ 0 → AllFull full → length last < 61440
+  pub whole : (start : Session) (full : List (List ℕ)) (last : List ℕ) → start.more ≡ true → start.refusal ≡ None → AllFull full → length last < 61440
       → all_written m start (full ++ last ∷ []) ≡ replayed m (reading_in start) (joined full last)
   -- after the end further pieces write nothing
   pub ended : (start : Session) (pieces rest : List (List ℕ)) → (after_pieces m start pieces).more ≡ false → all_written m start (pieces ++ rest) ≡ all_written m start pieces
   -- before it there is no ending
   pub unended : (start : Session) (pieces : List (List ℕ)) → (after_pieces m start pieces).more ≡ true → session_ending (after_pieces m start pieces) ≡ []
   -- a refused text's line is all that is written
-  pub refused : (start : Session) (pieces : List (List ℕ)) → start.more ≡ false → (start.refusal ≢ 0)
-      → all_written m start pieces ≡ refused_line start.refusal
+  pub refused : (start : Session) (pieces : List (List ℕ)) (refusal : Refusal) → start.more ≡ false → start.refusal ≡ Some refusal
+      → all_written m start pieces ≡ refused_line refusal
   -- a piece leaves what its bytes leave
   pub read : (s : Session) (piece : List ℕ) → s.more ≡ true → reading_in (after_piece m s piece) ≡ after_bytes m (reading_in s) piece
   -- after a broken record no more is read
@@ -73,9 +74,9 @@ pub record InPieces (m : Memory) : Type 0 where
   pub from-text : (text : List ℕ) (h : Hart) (map : Map) → from_text text ≡ handed_back h map Done → text_session text ≡ begun h map
   -- a text in either form is read in that form (02, [10])
   pub either_form : (form : Form) (text : List ℕ) → (read_text form text).ok ≡ true → from_text text ≡ read_anew form text
-  -- a refused text ends its session at once, with the number of the refusal
-  pub refused-text : (text : List ℕ) (n : ℕ) → (from_text text).answer ≡ Refused n → (n ≢ 0)
-      → ((text_session text).more ≡ false) × ((text_session text).refusal ≡ n)
+  -- a refused text ends its session at once, with the refusal
+  pub refused-text : (text : List ℕ) (refusal : Refusal) → (from_text text).answer ≡ Refused refusal
+      → ((text_session text).more ≡ false) × ((text_session text).refusal ≡ Some refusal)
   -- so a trace from reset writes what it gives at once from the reset state
   pub reset-whole : (full : List (List ℕ)) (last : List ℕ) → AllFull full → length last < 61440
       → all_written m reset_session (full ++ last ∷ []) ≡ replayed m (unread (reset_mapped 0).hart (reset_mapped 0).map) (joined full last)
@@ -83,5 +84,5 @@ pub record InPieces (m : Memory) : Type 0 where
   pub text-whole : (text : List ℕ) (h : Hart) (map : Map) (full : List (List ℕ)) (last : List ℕ) → from_text text ≡ handed_back h map Done → AllFull full
       → length last < 61440 → all_written m (text_session text) (full ++ last ∷ []) ≡ replayed m (unread h map) (joined full last)
   -- while behind a refused text, whatever comes, the refusal's line is all
-  pub text-refused : (text : List ℕ) (n : ℕ) (pieces : List (List ℕ)) → (from_text text).answer ≡ Refused n → (n ≢ 0)
-      → all_written m (text_session text) pieces ≡ refused_line n
+  pub text-refused : (text : List ℕ) (refusal : Refusal) (pieces : List (List ℕ)) → (from_text text).answer ≡ Refused refusal
+      → all_written m (text_session text) pieces ≡ refused_line refusal

@@ -3,6 +3,7 @@ pub mod Buffers
 pub mod Answers
 pub mod WorkedLines
 pub mod Replies
+pub mod Widths
 pub mod Reading
 pub mod Batches
 pub mod Feeding

@@ -1,11 +1,12 @@
 -- The parts in which the code reads a scrap: the record that the carried bytes begin, whole records, and what is left behind them.
-use Rattle.std.specs.Prelude.{ℕ, ◌+◌, ◌-◌, ◌/◌, Bool, true, false, cond, ◌||◌, List, [], ◌++◌, length, take, drop, replicate, ◌==◌, nat_lt}
+use Rattle.std.specs.Prelude.{ℕ, ◌+◌, ◌-◌, ◌/◌, min, Bool, true, false, cond, ◌||◌, List, [], ◌++◌, length, take, drop, replicate, ◌==◌, nat_lt, Option, Some, None}
 use Rattle.std.proofs.lemmas.List.Edits.{sets}
 use Rattle.state.specs.declared.State.{State}
 use Rattle.map.specs.declared.Map.{Map}
 use Rattle.hart.specs.declared.Mapped.{Mapped}
 use Rattle.hart.specs.Steps.{map_for, hart_with}
 use Rattle.hart.specs.Runs.{with}
+use Rattle.trace.specs.Batches.{records_of}
 use Rattle.trace.specs.declared.Opening.{Opening}
 use Rattle.trace.specs.declared.Cursor.{Cursor}
 use Rattle.trace.specs.declared.Reader.{Reader}
@@ -18,15 +19,20 @@ unopened count room came = count == 0 || (room == 0 || nat_lt came (60 - count))
 abbrev pub opening_of : List ℕ → ℕ → List ℕ → ℕ → Opening
 opening_of carried count scrap room =
     cond (unopened count room (length scrap))
-    (record { text = replicate 60 0; heads = 0; at = 0; kept = count })
-    (record { text = sets (replicate 60 0) 0 (take count carried ++ take (60 - count) scrap); heads = 1; at = 60 - count; kept = 0 })
+    (record { first = None; room = room; at = 0; kept = count })
+    (record { first = Some (sets (replicate 60 0) 0 (take count carried ++ take (60 - count) scrap)); room = room - 1; at = 60 - count; kept = 0 })
+
+-- its record, or none
+abbrev pub opened_texts : Option (List ℕ) → List (List ℕ)
+opened_texts (Some text) = records_of 1 text
+opened_texts None = []
 
 abbrev pub wholes_in : ℕ → ℕ → ℕ → ℕ
-wholes_in room rest kept = cond (kept == 0) (cond (nat_lt (rest / 60) room) (rest / 60) room) 0
+wholes_in room rest kept = cond (kept == 0) (min (rest / 60) room) 0
 
 -- the bytes taken behind the last record
 abbrev pub further_in : ℕ → ℕ → ℕ
-further_in rest kept = cond (nat_lt (59 - kept) rest) (59 - kept) rest
+further_in rest kept = min (59 - kept) rest
 
 abbrev pub carrying : List ℕ → ℕ → Bool → Reader
 carrying left number stopped = record { carried = sets (replicate 59 0) 0 left; count = length left; number = number; stopped = stopped }

@@ -1,8 +1,7 @@
 -- 02, [1]: a trace read byte by byte. The hart steps at each full record of 60 bytes, with the memory lent to it, up to a record that is refused by 8.
-use Rattle.std.specs.Prelude.{ℕ, ◌+◌, ◌%◌, ◌^◌, Bool, true, false, cond, List, [], ◌∷◌, ◌++◌, length, nat_lt}
+use Rattle.std.specs.Prelude.{ℕ, ◌+◌, ◌%◌, ◌^◌, Bool, true, false, cond, List, [], ◌∷◌, ◌++◌, Option, Some, None, length, nat_lt}
 use Rattle.bits.specs.Fold.{fold, outputs}
-use Rattle.steps.specs.declared.Decoded.{Decoded}
-use Rattle.steps.specs.declared.Decoded.TheVariants.{Formed, Nothing}
+use Rattle.steps.specs.declared.Step.{Step}
 use Rattle.steps.specs.Decode.{is_access}
 use Rattle.paging.specs.Memory.{Memory}
 use Rattle.map.specs.declared.Map.{Map}
@@ -38,13 +37,13 @@ reading r left = record { replay = r; left = left }
 -- the memory that is lent at a record (02, [8])
 module _ (m : Memory) where
   -- a record's step, or refusal 8 where it names none
-  abbrev pub after_decoded : Replay → Decoded → Replay
-  after_decoded r (Formed step) = after_step (stepped r.hart r.map m step) r.number
-  after_decoded r Nothing = stopped_at r
+  abbrev pub after_decoded : Replay → Option Step → Replay
+  after_decoded r (Some step) = after_step (stepped r.hart r.map m step) r.number
+  after_decoded r None = stopped_at r
 
-  abbrev pub reply_to : Replay → Decoded → Reply
-  reply_to r (Formed step) = Answered (stepped r.hart r.map m step).answer (is_access step)
-  reply_to r Nothing = Broken r.number
+  abbrev pub reply_to : Replay → Option Step → Reply
+  reply_to r (Some step) = Answered (stepped r.hart r.map m step).answer (is_access step)
+  reply_to r None = Broken r.number
 
   -- a record's 60 bytes: what they leave, and what is given out; after refusal 8, nothing
   unfoldable pub after_record : Replay → List ℕ → Replay

@@ -1,8 +1,8 @@
 -- 02, [1]: refusal 8 exactly where a record names no step, judged once all 60 bytes are there; any other record is answered by its step.
-use Rattle.std.specs.Prelude.{◌≡◌, ℕ, ◌+◌, ◌%◌, ◌^◌, ◌<◌, ◌≤◌, true, false, List, [], ◌∷◌, ◌++◌, map, length, ◌≢◌}
+use Rattle.std.specs.Prelude.{◌≡◌, ℕ, ◌+◌, ◌%◌, ◌^◌, ◌<◌, ◌≤◌, true, false, List, [], ◌∷◌, ◌++◌, map, length, ◌≢◌, Some, None}
 use Rattle.bits.specs.Lists.{Words}
 use Rattle.lines.specs.Lines.{bytes_of}
-use Rattle.steps.specs.declared.Decoded.TheVariants.{Formed, Nothing}
+use Rattle.pmp.specs.declared.Refusal.{Refusal}
 use Rattle.steps.specs.declared.Step.{Step}
 use Rattle.steps.specs.declared.Answer.TheVariants.{Refused}
 use Rattle.steps.specs.Decode.{decoded, is_access}
@@ -39,11 +39,11 @@ pub record RefusalEight (m : Memory) : Type 0 where
   -- ---- a record's bytes
 
   -- "a step number above 17, an unused argument that isn't 0, or a broken line": read as no step, and nothing else is
-  pub none : (text : List ℕ) → NamesNone text → read_step text ≡ Nothing
-  pub only : (text : List ℕ) → read_step text ≡ Nothing → NamesNone text
+  pub none : (text : List ℕ) → NamesNone text → read_step text ≡ None
+  pub only : (text : List ℕ) → read_step text ≡ None → NamesNone text
   -- "a record is three lines": its step is that of their words, and there is one
   pub named : (text : List ℕ) (step a b : ℕ) → Names text step a b → read_step text ≡ decoded step a b
-  pub formed : (step a b : ℕ) → step ≤ 17 → decoded step a b ≢ Nothing
+  pub formed : (step a b : ℕ) → step ≤ 17 → decoded step a b ≢ None
   -- "60 bytes": no other length is a record
   pub sixty : (text : List ℕ) (step a b : ℕ) → Names text step a b → length text ≡ 60
   -- ---- the byte that completes a record
@@ -54,16 +54,16 @@ pub record RefusalEight (m : Memory) : Type 0 where
   -- and no other refuses so
   pub refused-only : (x : Reading) (b number : ℕ) → Completes x → byte_replies m x b ≡ Broken number ∷ [] → NamesNone (x.left ++ b ∷ [])
   -- "the hart steps at each full record", and the answer is given out whatever it is
-  pub answered : (x : Reading) (b step a b' : ℕ) (s : Step) → Completes x → Names (x.left ++ b ∷ []) step a b' → decoded step a b' ≡ Formed s →
+  pub answered : (x : Reading) (b step a b' : ℕ) (s : Step) → Completes x → Names (x.left ++ b ∷ []) step a b' → decoded step a b' ≡ Some s →
       let after = stepped x.replay.hart x.replay.map m s in
       (byte_replies m x b ≡ Answered after.answer (is_access s) ∷ []) × (after_byte m x b ≡ reading (after_step after x.replay.number) [])
   -- "a step that 01 refuses is an answer like others, and reading goes on", with the next number; "refusal 3 is each step's own"
-  pub goes_on : (x : Reading) (b step a b' n : ℕ) (s : Step) → Completes x → Names (x.left ++ b ∷ []) step a b' → decoded step a b' ≡ Formed s
-      → (stepped x.replay.hart x.replay.map m s).answer ≡ Refused n
-      → (byte_replies m x b ≡ Answered (Refused n) (is_access s) ∷ [])
+  pub goes_on : (x : Reading) (b step a b' : ℕ) (refusal : Refusal) (s : Step) → Completes x → Names (x.left ++ b ∷ []) step a b' → decoded step a b' ≡ Some s
+      → (stepped x.replay.hart x.replay.map m s).answer ≡ Refused refusal
+      → (byte_replies m x b ≡ Answered (Refused refusal) (is_access s) ∷ [])
       × ((after_byte m x b).replay.stopped ≡ false) × ((after_byte m x b).replay.number ≡ (x.replay.number + 1) % 2 ^ 64)
   -- no step of 01 answers refusal 8 itself: it is the reader's alone
-  pub own : (h : Hart) (map : Map) (s : Step) → (stepped h map m s).answer ≢ Refused 8
+  pub own : (h : Hart) (map : Map) (s : Step) → (stepped h map m s).answer ≢ Refused Refusal.Record
   -- ---- any other byte
 
   -- "judged once all 60 bytes are there": before, a byte is kept and nothing else
@@ -82,10 +82,10 @@ pub record WorkedRecords : Type 0 where
       ≡ true ∷ false ∷ false ∷ false ∷ true ∷ false ∷ true ∷ true ∷ true ∷ true ∷ true ∷ true ∷ true ∷ true ∷ true ∷ false ∷ false ∷ false ∷ []
   pub letters : record_of 17 0x0123456789abcdef 0xfedcba9876543210 ≡ bytes_of "step=0000000000000011\na=0123456789abcdef\nb=fedcba9876543210\n"
   -- a step number above 17
-  pub eighteen : read_step (bytes_of "step=0000000000000012\na=0000000000000000\nb=0000000000000000\n") ≡ Nothing
+  pub eighteen : read_step (bytes_of "step=0000000000000012\na=0000000000000000\nb=0000000000000000\n") ≡ None
   -- an unused argument that is not 0
-  pub unused : read_step (bytes_of "step=0000000000000004\na=0000000000000300\nb=0000000000000001\n") ≡ Nothing
+  pub unused : read_step (bytes_of "step=0000000000000004\na=0000000000000300\nb=0000000000000001\n") ≡ None
   -- broken lines: an upper-case digit, another key, a carriage return for a line feed
-  pub upper_case : read_step (bytes_of "step=0000000000000005\na=0000000000000002\nb=00000000000000AB\n") ≡ Nothing
-  pub other_key : read_step (bytes_of "step=0000000000000005\nb=0000000000000002\na=00000000000000ab\n") ≡ Nothing
-  pub other_end : read_step (bytes_of "step=0000000000000005\na=0000000000000002\nb=00000000000000ab\r") ≡ Nothing
+  pub upper_case : read_step (bytes_of "step=0000000000000005\na=0000000000000002\nb=00000000000000AB\n") ≡ None
+  pub other_key : read_step (bytes_of "step=0000000000000005\nb=0000000000000002\na=00000000000000ab\n") ≡ None
+  pub other_end : read_step (bytes_of "step=0000000000000005\na=0000000000000002\nb=00000000000000ab\r") ≡ None

@@ -1,5 +1,6 @@
 -- Saved texts as programs read and write them (02, [10]): which form is read and which is written, and the line of a refusal in place of a text.
-use Rattle.std.specs.Prelude.{ℕ, cond, List, [], length, ◌==◌}
+use Rattle.std.specs.Prelude.{ℕ, cond, List, [], length, ◌==◌, Option, Some, None}
+use Rattle.pmp.specs.declared.Refusal.{Refusal}
 use Rattle.state.specs.declared.State.{State}
 use Rattle.state.specs.Hold.{can_hold}
 use Rattle.state.specs.Texts.{first_form_holds}
@@ -21,16 +22,18 @@ form_for s = cond (first_form_holds s) First Second
 
 -- the saved text of a hart, or the line of refusal 3 where no hart can hold its state
 unfoldable pub state_text : Hart → List ℕ
-state_text h = cond (can_hold h.state) (text_for (form_for h.state) h) (refused_line 3)
+state_text h = cond (can_hold h.state) (text_for (form_for h.state) h) (refused_line Refusal.State)
 
 -- a text converted to a form, or the line of the refusal: 4 or 5 in reading it in the other form, 12 where the form cannot hold its state
 unfoldable pub converted_output : Form → List ℕ → List ℕ
-converted_output to text = by_text (other to) text refused_line (λ s. cond (form_holds to s) (text_of to (words_of s)) (refused_line 12))
+converted_output to text = by_text (other to) text refused_line (λ s. cond (form_holds to s) (text_of to (words_of s)) (refused_line Refusal.Form))
 
 -- ---- behind a call that wrote a text of a form or was refused: what is then written, and the length of the text or of that line
 
-abbrev pub refusal_text : ℕ → List ℕ
-refusal_text refusal = cond (refusal == 0) [] (refused_line refusal)
+abbrev pub refusal_text : Option Refusal → List ℕ
+refusal_text None = []
+refusal_text (Some refusal) = refused_line refusal
 
-abbrev pub outcome_length : Form → ℕ → ℕ
-outcome_length form refusal = cond (refusal == 0) (length_of form) (length (refused_line refusal))
+abbrev pub outcome_length : Form → Option Refusal → ℕ
+outcome_length form None = length_of form
+outcome_length form (Some refusal) = length (refused_line refusal)

@@ -1,6 +1,7 @@
 -- A replay whose trace comes in pieces: what is kept from piece to piece, the lines that each piece gives out, and what is written at the end.
-use Rattle.std.specs.Prelude.{ℕ, ◌+◌, ◌*◌, ◌/◌, cond, not, ◌&&◌, List, [], ◌++◌, length, ◌==◌, nat_lt}
+use Rattle.std.specs.Prelude.{ℕ, ◌+◌, ◌*◌, ◌/◌, cond, not, ◌&&◌, List, [], ◌++◌, length, ◌==◌, nat_lt, is_none, Option, None, unwrap_or, option_map}
 use Rattle.bits.specs.Fold.{fold, outputs}
+use Rattle.pmp.specs.declared.Refusal.{Refusal}
 use Rattle.steps.specs.Number.{refusal_of}
 use Rattle.paging.specs.Memory.{Memory}
 use Rattle.map.specs.declared.Map.{Map}
@@ -18,19 +19,19 @@ use Rattle.trace.specs.Feeding.{new_reader, left_count, reading_of, reader_of}
 use Rattle.trace.specs.SavedTexts.{form_by_length}
 use Rattle.trace.specs.Endings.{ending}
 
--- a session that starts with a hart and its map; a refusal other than 0 has ended it
-abbrev pub session_from : Hart → Map → ℕ → Session
+-- a session that starts with a hart and its map; a refusal has ended it
+abbrev pub session_from : Hart → Map → Option Refusal → Session
 session_from h map refusal = record {
   reader = new_reader;
   hart = h;
   map = map;
-  more = (refusal == 0);
+  more = is_none refusal;
   refusal = refusal;
 }
 
 -- 02, [9]: from reset with a grain of 4 bytes, as 01's hart has it
 unfoldable pub reset_session : Session
-reset_session = session_from (reset_mapped 0).hart (reset_mapped 0).map 0
+reset_session = session_from (reset_mapped 0).hart (reset_mapped 0).map None
 
 -- 01, "Saved text", and 02, [10]: what reading a text of either form back gives; a refused text starts nothing
 abbrev pub read_session : Stepped → Session
@@ -65,7 +66,7 @@ piece_room piece = 64 * (length piece / 60 + 1)
 unfoldable pub session_ending : Session → List ℕ
 session_ending s =
     cond s.more []
-    (cond (s.refusal == 0) (ending s.hart s.map (left_count s.reader.stopped s.reader.count)) (refused_line s.refusal))
+    (unwrap_or (option_map refused_line s.refusal) (ending s.hart s.map (left_count s.reader.stopped s.reader.count)))
 
 -- every record of every piece is lent the same memory (02, [8])
 module _ (m : Memory) where

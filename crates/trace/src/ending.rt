@@ -9,6 +9,7 @@ use crate::writer::{put, put_decimal, put_numbered, put_word};
 use hart::Hart;
 use map::{Map, Range};
 
+#[tactic(auto, using(crate::proofs::Writing::parts), unfolding(crate::specs::Endings::owner_text, lines::specs::Lines::bytes_of))]
 fn put_owner(owner: u64, out: &mut [u8], place: usize) -> usize
     requires { place + 20 ≤ length out.old }
     ensures { Put out.old place (owner_text owner) out.new result }
@@ -20,6 +21,7 @@ fn put_owner(owner: u64, out: &mut [u8], place: usize) -> usize
     }
 }
 
+#[tactic(auto, using(crate::proofs::Endings::lengths), unfolding(crate::specs::Endings::range_line, lines::specs::Lines::bytes_of))]
 fn put_range(range: Range, out: &mut [u8], place: usize) -> usize
     requires { place + 64 ≤ length out.old }
     ensures { Put out.old place (range_line range) out.new result }
@@ -37,16 +39,14 @@ fn put_ranges(map: Map, out: &mut [u8], place: usize) -> usize
 {
     let n = map::count_read(map.count);
     let mut next = place;
-    let mut k: usize = 0;
-    while k < n {
-        let range = map.ranges[k];
-        next = put_range(range, out, next);
-        k += 1;
+    for range in &map.ranges[..n] {
+        next = put_range(*range, out, next);
     }
     next
 }
 
 // The saved text of the end state, the ranges of the map and the bytes left over.
+#[tactic(auto, using(crate::proofs::Endings::lengths), unfolding(crate::specs::Endings::ending, lines::specs::Lines::bytes_of))]
 pub(crate) fn put_ending(hart: Hart, map: Map, left: u64, out: &mut [u8]) -> usize
     requires { 4096 ≤ length out.old }
     ensures { Put out.old 0 (ending hart map left) out.new result }

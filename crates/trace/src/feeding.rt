@@ -2,21 +2,25 @@
 ghost use Rattle.std.specs.Prelude.{◌≡◌, ◌+◌, ◌*◌, ◌≤◌, min, ◌++◌, length};
 ghost use Rattle.std.proofs.lemmas.List.Edits.{sets};
 ghost use Rattle.state.specs.Words.{state_of};
-ghost use Rattle.paging.specs.Memory.{memory_at};
-ghost use Rattle.trace.specs.Replies.{width_of, target, spared};
+ghost use Rattle.paging.specs.Memory.{memory_of};
 ghost use Rattle.trace.specs.Feeding.{Feeds};
-ghost use Rattle.trace.specs.Parts.{opening_of, wholes_in, further_in, closed, remade};
+ghost use Rattle.state.specs.Hold.{can_hold};
+ghost use Rattle.trace.specs.Batches.{Batch};
+ghost use Rattle.trace.specs.Parts.{opening_of, opened_texts, wholes_in, further_in, closed, remade};
 
 use crate::batch::batch;
+use crate::replies::Output;
 use crate::writer::put;
 use crate::{Cursor, Opening, Progress, Reader};
 use hart::{Hart, Mapped};
 use map::Map;
+use paging::Memory;
+use state::State;
 
 pub(crate) fn capped(count: u64) -> usize
     ensures { result ≡ min count 59 }
 {
-    if count < 59 { count as usize } else { 59 }
+    count.min(59) as usize
 }
 
 // Writes one text behind the other, from the front of a buffer on.
@@ -32,20 +36,20 @@ fn open(carried: [u8; 59], count: usize, scrap: &[u8], room: usize) -> Opening
     requires { count ≤ 59 }
     ensures { result ≡ opening_of carried count scrap.now room }
 {
-    let mut text = [0u8; 60];
     let missing = 60 - count;
     if (count == 0) | ((room == 0) | (scrap.len() < missing)) {
         return Opening {
-            text,
-            heads: 0,
+            first: None,
+            room,
             at: 0,
             kept: count,
         };
     }
+    let mut text = [0u8; 60];
     join(&carried[0..count], &scrap[0..missing], &mut text);
     Opening {
-        text,
-        heads: 1,
+        first: Some(text),
+        room: room - 1,
         at: missing,
         kept: 0,
     }
@@ -58,8 +62,7 @@ fn wholes(room: usize, rest: usize, kept: usize) -> usize
     if kept != 0 {
         return 0;
     }
-    let whole = rest / 60;
-    if whole < room { whole } else { room }
+    (rest / 60).min(room)
 }
 
 // How many bytes behind the last record are taken: the 60th of a record would need an answer.
@@ -67,7 +70,7 @@ fn further(rest: usize, kept: usize) -> usize
     requires { kept ≤ 59 }
     ensures { result ≡ further_in rest kept }
 {
-    if 59 - kept < rest { 59 - kept } else { rest }
+    (59 - kept).min(rest)
 }
 
 // What is left behind the last record. After a broken one every byte is taken, and none is carried.
@@ -105,27 +108,40 @@ fn close(carried: [u8; 59], kept: usize, scrap: &[u8], end: usize, last: Cursor)
     }
 }
 
+// Steps through the record that an opening has, if any.
+fn read_first<O: Output>(
+    words: &mut [u64; 43],
+    memory: Memory<'_>,
+    first: Option<[u8; 60]>,
+    out: &mut [O],
+    start: Cursor,
+) -> Cursor
+    requires count_in_bounds { start.filled + O.width * length (opened_texts first) ≤ length out.old }
+    requires held_value { start.held ≡ can_hold (state_of words.old) }
+    ensures batch { Batch (memory_of memory.entry) O.text (opened_texts first) start words.old out.old result words.new out.new }
+    ensures held_value_2 { result.held ≡ can_hold (state_of words.new) }
+{
+    match first {
+        Some(text) => batch(words, memory, &text, 0, 1, out, start),
+        None => start,
+    }
+}
+
 // Feeds a scrap to a reader, on the words of its hart, with room for a number of answers.
-pub(crate) fn read(
+pub(crate) fn read<O: Output>(
     reader: Reader,
     words: &mut [u64; 43],
-    memory: &[u64],
-    base: u64,
+    memory: Memory<'_>,
     scrap: &[u8],
     room: usize,
-    as_lines: bool,
-    answers: &mut [u64],
-    lines: &mut [u8],
+    out: &mut [O],
 ) -> Progress
-    requires { width_of as_lines * room ≤ length (target as_lines answers.old lines.old) }
-    ensures feeds { Feeds (memory_at memory.now base) as_lines reader room scrap.now words.old (target as_lines answers.old lines.old) result words.new (target as_lines answers.new lines.new) }
-    ensures lines_unchanged { spared as_lines answers.new lines.new ≡ spared as_lines answers.old lines.old }
+    requires { O.width * room ≤ length out.old }
+    ensures feeds { Feeds (memory_of memory.entry) O.text reader room scrap.now words.old out.old result words.new out.new }
 {
     let carried = reader.carried;
     let count = capped(reader.count);
     let opening = open(carried, count, scrap, room);
-    let text = opening.text;
-    let heads = opening.heads;
     let at = opening.at;
     let kept = opening.kept;
     let start = Cursor {
@@ -135,13 +151,9 @@ pub(crate) fn read(
         stopped: reader.stopped,
         filled: 0,
     };
-    let first = batch(
-        words, memory, base, &text, 0, heads, as_lines, answers, lines, start,
-    );
-    let whole = wholes(room - heads, scrap.len() - at, kept);
-    let last = batch(
-        words, memory, base, scrap, at, whole, as_lines, answers, lines, first,
-    );
+    let first = read_first(words, memory, opening.first, out, start);
+    let whole = wholes(opening.room, scrap.len() - at, kept);
+    let last = batch(words, memory, scrap, at, whole, out, first);
     close(carried, kept, scrap, at + 60 * whole, last)
 }
 
@@ -149,7 +161,7 @@ pub(crate) fn read(
 pub(crate) fn handed_back(words: [u64; 43], remap: bool, map: Map) -> Mapped
     ensures { result ≡ remade (state_of words) remap map }
 {
-    let state = state::of_words(words);
+    let state = State::from(words);
     let mut left = Mapped {
         hart: Hart { state },
         map,

@@ -1,8 +1,10 @@
 // A trace: the reader of its records, cut anywhere, and the answers to them, in words or as lines; and saved texts, as programs read and write them.
 #![tactic(auto)]
 
+use engine::Told;
 use hart::Hart;
 use map::Map;
+use pmp::Refusal;
 
 mod batch;
 mod ending;
@@ -17,6 +19,7 @@ pub use saved::write_converted;
 
 // What goes on from one scrap of a trace to the next: the bytes short of a record and their count, the number of the next record, and whether a broken
 // record has ended the reading. A count above 59 is read as 59.
+// The count stands beside the bytes, and not in a type of its own: C lends both to `tegrwyllt_feed`, with any count.
 #[derive(Clone, Copy)]
 pub struct Reader {
     pub carried: [u8; 59],
@@ -44,11 +47,10 @@ pub struct Progress {
     pub remap: bool,
 }
 
-// What a step leaves besides the words of the hart: whether a hart can hold them, whether it asked for a fresh map, and the place behind its answer.
+// What a step leaves besides the words of the hart: what the engine tells of it, and the place behind its answer.
 #[derive(Clone, Copy)]
 pub(crate) struct StepLeft {
-    pub(crate) held: bool,
-    pub(crate) remap: bool,
+    pub(crate) told: Told,
     pub(crate) filled: usize,
 }
 
@@ -63,25 +65,25 @@ pub(crate) struct Cursor {
     pub(crate) filled: usize,
 }
 
-// The record that the carried bytes begin, where the scrap completes it and there is room: its text, whether there is one (1 or 0), the place behind
-// it, and how many bytes are still carried.
+// The record that the carried bytes begin, where the scrap completes it and there is room; the room behind it, the place behind it, and how many bytes are
+// still carried.
 #[derive(Clone, Copy)]
 pub(crate) struct Opening {
-    pub(crate) text: [u8; 60],
-    pub(crate) heads: usize,
+    pub(crate) first: Option<[u8; 60]>,
+    pub(crate) room: usize,
     pub(crate) at: usize,
     pub(crate) kept: usize,
 }
 
 // What goes on from one piece of a trace to the next in a program: the reader with its hart and map, whether there may be more input, and the refusal of
-// the text it started from, or 0.
+// the text it started from, if any.
 #[derive(Clone, Copy)]
 pub struct Session {
     pub reader: Reader,
     pub hart: Hart,
     pub map: Map,
     pub more: bool,
-    pub refusal: u64,
+    pub refusal: Option<Refusal>,
 }
 
 // What feeding a piece leaves, and how many bytes of lines it wrote.

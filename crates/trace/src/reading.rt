@@ -1,12 +1,13 @@
 // The reader of a trace, fed scraps of any length.
 ghost use Rattle.std.specs.Prelude.{◌≡◌, ◌/◌, length};
-ghost use Rattle.paging.specs.Memory.{memory_at};
+ghost use Rattle.paging.specs.Memory.{memory_of};
 ghost use Rattle.trace.specs.Feeding.{new_reader, left_count, FeedsWords, fed, feed_words};
 
 use crate::feeding::{capped, handed_back, read};
 use crate::{Fed, Progress, Reader};
 use hart::Hart;
 use map::Map;
+use paging::Memory;
 
 impl Reader {
     // A reader before the first byte of a trace.
@@ -36,18 +37,14 @@ impl Reader {
     pub fn feed_words(
         self,
         words: &mut [u64; 43],
-        memory: &[u64],
-        base: u64,
+        memory: Memory<'_>,
         scrap: &[u8],
         answers: &mut [u64],
     ) -> Progress
-        ensures { FeedsWords (memory_at memory.now base) self scrap.now words.old answers.old result words.new answers.new }
+        ensures { FeedsWords (memory_of memory.entry) self scrap.now words.old answers.old result words.new answers.new }
     {
-        let mut lines = [0u8; 1];
         let room = answers.len() / 4;
-        read(
-            self, words, memory, base, scrap, room, false, answers, &mut lines,
-        )
+        read(self, words, memory, scrap, room, answers)
     }
 
     // The same by value: the hart and its map go along. The map is compiled once, where a step asked for it.
@@ -55,25 +52,20 @@ impl Reader {
         self,
         hart: Hart,
         map: Map,
-        memory: &[u64],
-        base: u64,
+        memory: Memory<'_>,
         scrap: &[u8],
         answers: &mut [u64],
     ) -> Fed
-        ensures value { result ≡ fed (memory_at memory.now base) self hart map (length answers.old / 4) scrap.now }
-        ensures answers_after { answers.new ≡ feed_words (memory_at memory.now base) self hart map scrap.now answers.old }
+        ensures value { result ≡ fed (memory_of memory.entry) self hart map (length answers.old / 4) scrap.now }
+        ensures answers_after { answers.new ≡ feed_words (memory_of memory.entry) self hart map scrap.now answers.old }
     {
-        let state = hart.state;
-        let mut words = state::to_words(state);
-        let next = self.feed_words(&mut words, memory, base, scrap, answers);
-        let reader = next.reader;
+        let mut words = <[u64; 43]>::from(hart.state);
+        let next = self.feed_words(&mut words, memory, scrap, answers);
         let after = handed_back(words, next.remap, map);
-        let left = after.hart;
-        let left_map = after.map;
         Fed {
-            reader,
-            hart: left,
-            map: left_map,
+            reader: next.reader,
+            hart: after.hart,
+            map: after.map,
             taken: next.taken,
             answered: next.filled / 4,
         }

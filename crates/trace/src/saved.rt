@@ -5,7 +5,7 @@ ghost use Rattle.steps.specs.Number.{refusal_of};
 ghost use Rattle.trace.specs.Buffers.{Put, written_front, written_length};
 ghost use Rattle.trace.specs.SavedTexts.{form_by_length, form_for, state_text, converted_output, refusal_text, outcome_length};
 
-use crate::writer::put_numbered;
+use crate::writer::put_refused;
 use hart::Hart;
 use state::State;
 use steps::Answer;
@@ -37,11 +37,9 @@ fn put_refusal(form: Form, answer: Answer, out: &mut [u8]) -> usize
     ensures value { result ≡ outcome_length form (refusal_of answer) }
     ensures out_after { out.new ≡ sets out.old 0 (refusal_text (refusal_of answer)) }
 {
-    let refusal = steps::refusal_of(answer);
-    if refusal == 0 {
-        text::text_length(form)
-    } else {
-        put_numbered(b"refused ", refusal, out, 0)
+    match answer.refusal() {
+        None => text::text_length(form),
+        Some(refusal) => put_refused(refusal, out, 0),
     }
 }
 
@@ -56,7 +54,8 @@ pub(crate) fn put_state(hart: Hart, out: &mut [u8]) -> usize
     put_refusal(form, answer, out)
 }
 
-// Converts a text to a form and writes it, or the refusal in its place, to the front of a buffer of at least 1,094 bytes. A smaller one stays as it was.
+// Converts a text to a form and writes it, or the refusal in its place, to the front of a buffer of at least 1,094 bytes. A smaller one stays as it was, and 0
+// bytes are told, as many as a program then writes.
 pub fn write_converted(to: Form, text: &[u8], out: &mut [u8]) -> usize
     ensures value { result ≡ written_length 1094 (converted_output to text.now) out.old }
     ensures out_after { out.new ≡ written_front 1094 (converted_output to text.now) out.old }

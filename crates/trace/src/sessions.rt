@@ -1,25 +1,27 @@
 // A trace in pieces, for a program: what goes on from one piece to the next, and what is written for each.
 ghost use Rattle.std.specs.Prelude.{◌≡◌, ◌≤◌, length};
-ghost use Rattle.paging.specs.Memory.{memory_at};
+ghost use Rattle.paging.specs.Memory.{memory_of};
 ghost use Rattle.trace.specs.Buffers.{written_front, written_length};
 ghost use Rattle.trace.specs.Sessions.{session_from, reset_session, text_session, fed_piece, piece_lines, piece_room, session_ending};
 
 use crate::ending::put_ending;
 use crate::feeding::{handed_back, read};
 use crate::saved::form_by_length;
-use crate::writer::put_numbered;
+use crate::writer::put_refused;
 use crate::{Reader, Session, Written};
 use hart::Hart;
 use map::Map;
+use paging::Memory;
+use pmp::Refusal;
 
-fn session_from(hart: Hart, map: Map, refusal: u64) -> Session
+fn session_from(hart: Hart, map: Map, refusal: Option<Refusal>) -> Session
     ensures { result ≡ session_from hart map refusal }
 {
     Session {
         reader: Reader::new(),
         hart,
         map,
-        more: refusal == 0,
+        more: refusal.is_none(),
         refusal,
     }
 }
@@ -30,9 +32,7 @@ impl Session {
         ensures { result ≡ reset_session }
     {
         let reset = Hart::reset(0);
-        let hart = reset.hart;
-        let map = reset.map;
-        session_from(hart, map, 0)
+        session_from(reset.hart, reset.map, None)
     }
 
     // A session from a saved text in either form. A refused text has ended it.
@@ -40,23 +40,17 @@ impl Session {
         ensures { result ≡ text_session text.now }
     {
         let reset = Hart::reset(0);
-        let before = reset.hart;
-        let given = reset.map;
         let form = form_by_length(text);
-        let read = before.restore(given, form, text);
-        let answer = read.answer;
-        let refusal = steps::refusal_of(answer);
-        let hart = read.hart;
-        let map = read.map;
-        session_from(hart, map, refusal)
+        let read = reset.hart.restore(reset.map, form, text);
+        session_from(read.hart, read.map, read.answer.refusal())
     }
 
     // Feeds a piece to the reader, lends each record the memory, and writes the lines to the front of a buffer that has 64 bytes for each record that the
     // piece may complete: its own whole ones, and the one that was begun before it. A piece of 61,440 bytes is full; any other is the last one. A session that
     // has ended stays as it is, and so does one whose buffer is too small.
-    pub fn feed(self, memory: &[u64], base: u64, piece: &[u8], out: &mut [u8]) -> Written
-        ensures value { result ≡ fed_piece (memory_at memory.now base) self piece.now out.old }
-        ensures out_after { out.new ≡ written_front (piece_room piece.now) (piece_lines (memory_at memory.now base) self piece.now) out.old }
+    pub fn feed(self, memory: Memory<'_>, piece: &[u8], out: &mut [u8]) -> Written
+        ensures value { result ≡ fed_piece (memory_of memory.entry) self piece.now out.old }
+        ensures out_after { out.new ≡ written_front (piece_room piece.now) (piece_lines (memory_of memory.entry) self piece.now) out.old }
         ensures filled_in_bounds { result.filled ≤ length out.old }
     {
         if !self.more {
@@ -73,31 +67,15 @@ impl Session {
                 filled: 0,
             };
         }
-        let hart = self.hart;
-        let map = self.map;
-        let state = hart.state;
-        let mut words = state::to_words(state);
-        let mut answers = [0u64; 1];
+        let mut words = <[u64; 43]>::from(self.hart.state);
         let given = self.reader;
-        let next = read(
-            given,
-            &mut words,
-            memory,
-            base,
-            piece,
-            room,
-            true,
-            &mut answers,
-            out,
-        );
+        let next = read(given, &mut words, memory, piece, room, out);
         let reader = next.reader;
-        let after = handed_back(words, next.remap, map);
-        let left = after.hart;
-        let left_map = after.map;
+        let after = handed_back(words, next.remap, self.map);
         let session = Session {
             reader,
-            hart: left,
-            map: left_map,
+            hart: after.hart,
+            map: after.map,
             more: (came == 61440) & !reader.stopped,
             refusal: self.refusal,
         };
@@ -120,14 +98,9 @@ impl Session {
         if out.len() < 4096 {
             return 0;
         }
-        let refusal = self.refusal;
-        if refusal == 0 {
-            let reader = self.reader;
-            let hart = self.hart;
-            let map = self.map;
-            put_ending(hart, map, reader.left(), out)
-        } else {
-            put_numbered(b"refused ", refusal, out, 0)
+        match self.refusal {
+            None => put_ending(self.hart, self.map, self.reader.left(), out),
+            Some(refusal) => put_refused(refusal, out, 0),
         }
     }
 }

@@ -1,24 +1,23 @@
-// Lines written into a buffer.
+// Lines written into a buffer. The contracts promise each byte, in memory that is lent, so these are functions and no Display. The buffer and the place are
+// two parameters: a struct that held the buffer by `&mut` would need one clause more in each of them, that it still holds the same buffer.
 ghost use Rattle.std.specs.Prelude.{◌+◌, ◌≤◌, ◌++◌, length};
 ghost use Rattle.lines.specs.Lines.{hex_digits};
 ghost use Rattle.trace.specs.Buffers.{Put};
 ghost use Rattle.trace.specs.Answers.{decimal, numbered_line, trap_text, level_text, entry_text, told_text};
-ghost use Rattle.trace.specs.Answers.{value_line, flag_line, granted_line, trapped_line, answer_line, broken_line};
+ghost use Rattle.trace.specs.Answers.{value_line, flag_line, granted_line, trapped_line, refused_line, answer_line, broken_line};
 
-use pmp::NONE;
+use pmp::{NONE, Refusal};
 use steps::{Answer, Level, Trap};
 
-// Each function writes from a place on and answers the place behind what it wrote.
+// Each function writes from a place on and answers the place behind what it wrote. The texts are short: `copy_from_slice` takes twice the instructions here.
 pub(crate) fn put(text: &[u8], out: &mut [u8], place: usize) -> usize
     requires { place + length text.now ≤ length out.old }
     ensures { Put out.old place text.now out.new result }
 {
-    let mut i: usize = 0;
-    while i < text.len() {
+    for i in 0..text.len() {
         out[place + i] = text[i];
-        i += 1;
     }
-    place + i
+    place + text.len()
 }
 
 // A name and the digits of a word.
@@ -45,6 +44,7 @@ pub(crate) fn put_decimal(number: u64, out: &mut [u8], place: usize) -> usize
     put(&digits[..count], out, place)
 }
 
+#[tactic(auto, unfolding(lines::specs::Lines::bytes_of))]
 fn put_flag(flag: bool, out: &mut [u8], place: usize) -> usize
     requires { place + 9 ≤ length out.old }
     ensures { Put out.old place (flag_line flag) out.new result }
@@ -56,6 +56,7 @@ fn put_flag(flag: bool, out: &mut [u8], place: usize) -> usize
     }
 }
 
+#[tactic(auto, using(crate::proofs::Writing::parts), unfolding(crate::specs::Answers::trap_text, lines::specs::Lines::bytes_of))]
 fn put_trap(trap: Trap, out: &mut [u8], place: usize) -> usize
     requires { place + 30 ≤ length out.old }
     ensures { Put out.old place (trap_text trap) out.new result }
@@ -72,6 +73,7 @@ fn put_trap(trap: Trap, out: &mut [u8], place: usize) -> usize
     }
 }
 
+#[tactic(auto, unfolding(crate::specs::Answers::level_text, lines::specs::Lines::bytes_of))]
 fn put_level(level: Level, out: &mut [u8], place: usize) -> usize
     requires { place + 1 ≤ length out.old }
     ensures { Put out.old place (level_text level) out.new result }
@@ -83,6 +85,7 @@ fn put_level(level: Level, out: &mut [u8], place: usize) -> usize
 }
 
 // No entry has more than two digits.
+#[tactic(auto, using(crate::proofs::Writing::parts), unfolding(crate::specs::Answers::entry_text, lines::specs::Lines::bytes_of))]
 fn put_entry(entry: u8, out: &mut [u8], place: usize) -> usize
     requires { place + 11 ≤ length out.old }
     ensures { Put out.old place (entry_text entry) out.new result }
@@ -96,6 +99,7 @@ fn put_entry(entry: u8, out: &mut [u8], place: usize) -> usize
 }
 
 // Only the trap of an access tells an entry.
+#[tactic(auto, using(crate::proofs::Writing::parts), unfolding(crate::specs::Answers::told_text))]
 fn put_told(accessed: bool, entry: u8, out: &mut [u8], place: usize) -> usize
     requires { place + 11 ≤ length out.old }
     ensures { Put out.old place (told_text accessed entry) out.new result }
@@ -108,6 +112,7 @@ fn put_told(accessed: bool, entry: u8, out: &mut [u8], place: usize) -> usize
 }
 
 // A line of a name and a number.
+#[tactic(auto, using(crate::proofs::Writing::parts), unfolding(lines::specs::Lines::bytes_of))]
 pub(crate) fn put_numbered(name: &[u8], number: u64, out: &mut [u8], place: usize) -> usize
     requires { place + length name.now + 21 ≤ length out.old }
     ensures { Put out.old place (numbered_line name.now number) out.new result }
@@ -117,6 +122,15 @@ pub(crate) fn put_numbered(name: &[u8], number: u64, out: &mut [u8], place: usiz
     put(b"\n", out, end)
 }
 
+// The line of a refusal, which tells its number.
+pub(crate) fn put_refused(refusal: Refusal, out: &mut [u8], place: usize) -> usize
+    requires { place + 29 ≤ length out.old }
+    ensures { Put out.old place (refused_line refusal) out.new result }
+{
+    put_numbered(b"refused ", u64::from(refusal), out, place)
+}
+
+#[tactic(auto, using(crate::proofs::Writing::parts), unfolding(lines::specs::Lines::bytes_of))]
 fn put_value(old: u64, out: &mut [u8], place: usize) -> usize
     requires { place + 64 ≤ length out.old }
     ensures { Put out.old place (value_line old) out.new result }
@@ -125,6 +139,7 @@ fn put_value(old: u64, out: &mut [u8], place: usize) -> usize
     put(b"\n", out, next)
 }
 
+#[tactic(auto, using(crate::proofs::Writing::parts), unfolding(lines::specs::Lines::bytes_of))]
 fn put_granted(entry: u8, out: &mut [u8], place: usize) -> usize
     requires { place + 64 ≤ length out.old }
     ensures { Put out.old place (granted_line entry) out.new result }
@@ -134,6 +149,7 @@ fn put_granted(entry: u8, out: &mut [u8], place: usize) -> usize
     put(b"\n", out, next)
 }
 
+#[tactic(auto, using(crate::proofs::Writing::parts), unfolding(lines::specs::Lines::bytes_of))]
 fn put_trapped(
     accessed: bool,
     trap: Trap,
@@ -154,6 +170,7 @@ fn put_trapped(
 }
 
 // The line that answers a record, of an access or of another step. No line is longer than 64 bytes.
+#[tactic(auto, unfolding(crate::specs::Answers::answer_line, lines::specs::Lines::bytes_of))]
 pub(crate) fn put_answer(accessed: bool, answer: Answer, out: &mut [u8], place: usize) -> usize
     requires { place + 64 ≤ length out.old }
     ensures { Put out.old place (answer_line accessed answer) out.new result }
@@ -166,10 +183,11 @@ pub(crate) fn put_answer(accessed: bool, answer: Answer, out: &mut [u8], place: 
         Answer::Trapped(trap, level, entry) => put_trapped(
             accessed, trap, level, entry, out, place,
         ),
-        Answer::Refused(number) => put_numbered(b"refused ", number, out, place),
+        Answer::Refused(refusal) => put_refused(refusal, out, place),
     }
 }
 
+#[tactic(auto, unfolding(crate::specs::Answers::broken_line, lines::specs::Lines::bytes_of))]
 pub(crate) fn put_broken(number: u64, out: &mut [u8], place: usize) -> usize
     requires { place + 64 ≤ length out.old }
     ensures { Put out.old place (broken_line number) out.new result }

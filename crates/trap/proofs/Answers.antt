@@ -1,7 +1,8 @@
 -- What a step of the registers alone can answer: done, yes or no, a refusal, or a trap for an exception by no entry. Assumes nothing.
-use Rattle.std.proofs.Common.{ℕ, Bool, leb}
+use Rattle.std.proofs.Common.{ℕ, Bool, leb, Option, Some, None}
 use Rattle.bits.specs.Mask.{within}
 use Rattle.bits.proofs.Conjunction.{by_test}
+use Rattle.pmp.specs.declared.Refusal.{Refusal}
 use Rattle.pmp.specs.Rule.{none}
 use Rattle.steps.specs.declared.Level.{Level}
 use Rattle.steps.specs.declared.Level.TheVariants.{Supervisor, Machine}
@@ -13,8 +14,6 @@ use Rattle.steps.specs.declared.Answer.TheVariants.{Done, DoneValue, DoneFlag, T
 use Rattle.registers.specs.declared.Registers.{Registers}
 use Rattle.registers.specs.Masks.{lines_mask}
 use Rattle.registers.specs.Hold.{aligned}
-use Rattle.trap.specs.declared.Choice.{Choice}
-use Rattle.trap.specs.declared.Choice.TheVariants.{Take, Nothing}
 use Rattle.trap.specs.declared.Outcome.{Outcome}
 use Rattle.trap.specs.Enter.{raised_by, raised, raise_step}
 use Rattle.trap.specs.Interrupt.{lines_step, machine_bound_first, taken_by, interrupt_taken}
@@ -27,7 +26,7 @@ pub record OfNoAccess (P : Answer → Type 0) : Type 0 where
   pub done : P Done
   pub value : (old : ℕ) → P (DoneValue old)
   pub flag : (yes : Bool) → P (DoneFlag yes)
-  pub refused : (number : ℕ) → P (Refused number)
+  pub refused : (refusal : Refusal) → P (Refused refusal)
   pub trapped : (cause : ℕ) (level : Level) → P (Trapped (Exception cause) level none)
 
 module _ (P : Answer → Type 0) (each : OfNoAccess P) (r : Registers) where
@@ -38,9 +37,9 @@ module _ (P : Answer → Type 0) (each : OfNoAccess P) (r : Registers) where
   unfolding raised_by
   raised-answer cause tval = each.trapped cause _
 
-  taken-answer : (choice : Choice) → Of (taken_by r choice)
-  taken-answer (Take i) = each.flag _
-  taken-answer Nothing = each.flag _
+  taken-answer : (choice : Option ℕ) → Of (taken_by r choice)
+  taken-answer (Some i) = each.flag _
+  taken-answer None = each.flag _
 
   return_answer : (level : Level) → Of (return_step level r)
   unfolding return_step

@@ -1,5 +1,5 @@
 -- What the steps of the registers alone make of registers that a hart can hold, a hart can hold. Assumes nothing.
-use Rattle.std.proofs.Common.{◌≡◌, ℕ, ◌+◌, ◌*◌, ◌%◌, ◌^◌, ◌<◌, true, eqb, leb, [], ◌∷◌, refl, ◌∙◌, mod-eq_of_lt, arith, eq-eqb, eqb-true, leb-true}
+use Rattle.std.proofs.Common.{◌≡◌, ℕ, ◌+◌, ◌*◌, ◌%◌, ◌^◌, ◌<◌, true, eqb, leb, [], ◌∷◌, refl, ◌∙◌, mod-eq_of_lt, arith, eq-eqb, eqb-true, leb-true, Option, Some, None}
 use lib.Bits.{bit_and, bit_or, and_mask, or_shifted}
 use Rattle.bits.specs.Mask.{within}
 use Rattle.bits.proofs.Conjunction.{choose, by_test}
@@ -18,8 +18,6 @@ use Rattle.pmp.specs.Rule.{none}
 use Rattle.registers.specs.Hold.{aligned, registers_holdable}
 use Rattle.registers.specs.Update.{level_of, with_pc}
 use Rattle.registers.proofs.Held.{held, level_held, level_hold, level_of_held, flow_kept, interrupts_kept, counters_kept, level_kept}
-use Rattle.trap.specs.declared.Choice.{Choice}
-use Rattle.trap.specs.declared.Choice.TheVariants.{Take, Nothing}
 use Rattle.trap.specs.declared.Outcome.{Outcome}
 use Rattle.trap.specs.Enter.{destination, base, handler, trap_recorded, entered, raised_by, raise_step, illegal_instruction}
 use Rattle.trap.specs.Interrupt.{lines_step, machine_bound_first, taken_by, interrupt_taken}
@@ -93,10 +91,10 @@ module _ (r : Registers) (p : registers_holdable r ≡ true) where
   pub pc_holdable : (pc : ℕ) → aligned pc ≡ true → registers_holdable (with_pc r pc) ≡ true
   pc_holdable pc a = let k = held r p in flow_kept r p _ _ _ k.mode a k.mstatus
 
-  taken-by-holdable : (choice : Choice) → machine_bound_first r ≡ choice → Holdable (taken_by r choice)
-  taken-by-holdable (Take i) e =
+  taken-by-holdable : (choice : Option ℕ) → machine_bound_first r ≡ choice → Holdable (taken_by r choice)
+  taken-by-holdable (Some i) e =
       entered-holdable (destination r (Interrupt i)) (Interrupt i) 0 r p (interrupt-within i (chosen r i e))
-  taken-by-holdable Nothing e = p
+  taken-by-holdable None e = p
 
   return_step-holdable : (level : Level) → Holdable (return_step level r)
   unfolding return_step returned

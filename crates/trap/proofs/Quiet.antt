@@ -1,7 +1,8 @@
 -- A step of the registers alone is refused exactly when the table says, and a refusal changes nothing. Assumes nothing.
-use Rattle.std.proofs.Common.{◌≡◌, ℕ, Bool, true, false, cond, not, leb, refl}
+use Rattle.std.proofs.Common.{◌≡◌, ℕ, Bool, true, false, cond, not, leb, refl, Option, Some, None}
 use Rattle.bits.specs.Mask.{within}
 use Rattle.bits.proofs.Conjunction.{by_test}
+use Rattle.pmp.specs.declared.Refusal.{Refusal}
 use Rattle.pmp.specs.Rule.{none}
 use Rattle.steps.specs.declared.Level.{Level}
 use Rattle.steps.specs.declared.Level.TheVariants.{Supervisor, Machine}
@@ -12,8 +13,6 @@ use Rattle.steps.specs.declared.Answer.TheVariants.{Done, DoneValue, DoneFlag, G
 use Rattle.registers.specs.declared.Registers.{Registers}
 use Rattle.registers.specs.Masks.{lines_mask}
 use Rattle.registers.specs.Hold.{aligned}
-use Rattle.trap.specs.declared.Choice.{Choice}
-use Rattle.trap.specs.declared.Choice.TheVariants.{Take, Nothing}
 use Rattle.trap.specs.declared.Outcome.{Outcome}
 use Rattle.trap.specs.Refusal.{refused_step}
 use Rattle.trap.specs.Enter.{raised_by, raise_step}
@@ -29,7 +28,7 @@ refuses (DoneValue old) = false
 refuses (DoneFlag flag) = false
 refuses (Granted entry) = false
 refuses (Trapped trap level entry) = false
-refuses (Refused number) = true
+refuses (Refused refusal) = true
 
 -- raise cause above 7; lines outside their mask
 abbrev refused : Event → Bool
@@ -46,7 +45,7 @@ refused (Elapsed cycles retired) = false
 
 -- where the table refuses, the answer is refusal 2 and the registers are what went in; else it is no refusal
 abbrev pub Quiet : Registers → Bool → Outcome → Type 0
-Quiet r true o = o ≡ refused_step r 2
+Quiet r true o = o ≡ refused_step r Refusal.Argument
 Quiet r false o = refuses o.answer ≡ false
 
 module _ (r : Registers) where
@@ -55,13 +54,13 @@ module _ (r : Registers) where
   raised_quiet cause tval entry = refl
 
   -- the table and the step go by one test
-  unless_refused : (b : Bool) (o : Outcome) → Quiet r false o → Quiet r (not b) (cond b o (refused_step r 2))
+  unless_refused : (b : Bool) (o : Outcome) → Quiet r false o → Quiet r (not b) (cond b o (refused_step r Refusal.Argument))
   unless_refused true o q = q
   unless_refused false o q = refl
 
-  taken_quiet : (choice : Choice) → Quiet r false (taken_by r choice)
-  taken_quiet (Take i) = refl
-  taken_quiet Nothing = refl
+  taken_quiet : (choice : Option ℕ) → Quiet r false (taken_by r choice)
+  taken_quiet (Some i) = refl
+  taken_quiet None = refl
 
   return_quiet : (level : Level) → Quiet r false (return_step level r)
   unfolding return_step

@@ -1,6 +1,7 @@
 -- 01, "Traps, returns, time": where a trap goes, and entry to x; 02, [5]: the entry in its answer.
 use Rattle.std.specs.Prelude.{ℕ, ◌+◌, ◌-◌, ◌*◌, ◌%◌, ◌^◌, cond, not, ◌&&◌, ◌==◌, bit_and, bit_or, nat_le}
 use Rattle.bits.specs.Mask.{test_bit, cleared}
+use Rattle.pmp.specs.declared.Refusal.{Refusal}
 use Rattle.pmp.specs.Rule.{none}
 use Rattle.steps.specs.declared.Level.{Level}
 use Rattle.steps.specs.declared.Level.TheVariants.{Supervisor, Machine}
@@ -68,7 +69,7 @@ raised r cause tval = raised_by r cause tval none
 
 -- 01, "Steps": raise; a cause above 7 is refusal 2
 unfoldable pub raise_step : Registers → ℕ → ℕ → Outcome
-raise_step r cause tval = cond (nat_le cause 7) (raised r cause tval) (refused_step r 2)
+raise_step r cause tval = cond (nat_le cause 7) (raised r cause tval) (refused_step r Refusal.Argument)
 
 -- 01, "Registers and access to them": illegal instruction is cause 2 with trap value 0
 abbrev pub illegal_instruction : Registers → Outcome

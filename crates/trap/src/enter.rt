@@ -6,11 +6,12 @@ ghost use Rattle.trap.specs.Enter.{destination, handler, entered_status, entered
 
 use crate::{Outcome, refuse};
 use bits::has_bit;
-use pmp::NONE;
+use pmp::{NONE, Refusal};
 use registers::fields::{MIE, MPIE, MPP, MPP_ONE, SIE, SPIE, SPP};
 use registers::{Registers, level_registers, with_level_registers};
-use steps::{Answer, Level, Trap, level_number};
+use steps::{Answer, Level, Trap};
 
+// The level of a delegation bit, which is no level's number.
 fn chosen_level(supervisor: bool) -> Level
     ensures { result ≡ (if supervisor then Supervisor else Machine) }
 {
@@ -31,7 +32,7 @@ pub(crate) fn trap_level(r: Registers, trap: Trap) -> Level
     }
 }
 
-// What is recorded as the cause. The interrupts of a hart are places of a word.
+// What is recorded as the cause. The interrupts of a hart are places of a word, so that the sum does not wrap, as that of `u64::from` may.
 fn recorded_cause(trap: Trap) -> u64
     requires { interrupt_number trap < 64 }
     ensures { result ≡ cause_number trap }
@@ -44,7 +45,6 @@ fn recorded_cause(trap: Trap) -> u64
 
 // The address of the handler. An exception never vectors.
 fn handler_address(tvec: u64, trap: Trap) -> u64
-    requires { interrupt_number trap < 64 }
     ensures { result ≡ handler tvec trap }
 {
     let base = tvec - tvec % 4;
@@ -52,7 +52,7 @@ fn handler_address(tvec: u64, trap: Trap) -> u64
         Trap::Exception(_) => base,
         Trap::Interrupt(number) => {
             if tvec % 4 == 1 {
-                std::num::wrapping_add_u64(base, 4 * number)
+                base.wrapping_add(number.wrapping_mul(4))
             } else {
                 base
             }
@@ -61,6 +61,7 @@ fn handler_address(tvec: u64, trap: Trap) -> u64
 }
 
 // mstatus after entry to a level from a mode.
+#[tactic(auto, unfolding(crate::specs::Enter::entered_status))]
 fn entered_status(level: Level, mode: u64, mstatus: u64) -> u64
     ensures { result ≡ entered_status level mode mstatus }
 {
@@ -74,6 +75,7 @@ fn entered_status(level: Level, mode: u64, mstatus: u64) -> u64
     }
 }
 
+#[tactic(auto, unfolding(crate::specs::Enter::entered))]
 pub(crate) fn enter_level(level: Level, trap: Trap, tval: u64, r: Registers) -> Registers
     requires { interrupt_number trap < 64 }
     ensures { result ≡ entered level trap tval r }
@@ -85,12 +87,13 @@ pub(crate) fn enter_level(level: Level, trap: Trap, tval: u64, r: Registers) -> 
     l.tval = tval;
     let mut e = r;
     e.mstatus = entered_status(level, r.mode, r.mstatus);
-    e.mode = level_number(level);
+    e.mode = u64::from(level);
     e.pc = address;
     with_level_registers(level, e, l)
 }
 
 // Raises an exception of any cause. `entry` is what decided on the access from which it comes.
+#[tactic(auto, unfolding(crate::specs::Enter::raised_by))]
 pub fn raise_by(r: Registers, cause: u64, tval: u64, entry: u8) -> Outcome
     ensures { result ≡ raised_by r cause tval entry }
 {
@@ -110,13 +113,14 @@ pub(crate) fn raise(r: Registers, cause: u64, tval: u64) -> Outcome
 }
 
 // Raises an exception of a cause up to 7; another is refused.
+#[tactic(auto, unfolding(crate::specs::Enter::raise_step))]
 pub fn raise_step(r: Registers, cause: u64, tval: u64) -> Outcome
     ensures { result ≡ raise_step r cause tval }
 {
     if cause <= 7 {
         raise(r, cause, tval)
     } else {
-        refuse(r, 2)
+        refuse(r, Refusal::Argument)
     }
 }
 

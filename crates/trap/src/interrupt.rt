@@ -4,14 +4,16 @@ ghost use Rattle.bits.specs.Mask.{test_bit};
 ghost use Rattle.trap.specs.Interrupt.{lines_step, admits, takeable_to, first_of, priority, machine_bound_first, interrupt_taken};
 
 use crate::enter::{enter_level, trap_level};
-use crate::{Choice, Outcome, refuse};
+use crate::{Outcome, refuse};
 use bits::has_bit;
+use pmp::Refusal;
 use registers::fields::{MIE, SIE};
 use registers::masks::LINES;
 use registers::{Registers, pending_interrupts};
 use steps::{Answer, Level, Trap};
 
 // Replaces the lines; bits that are no lines are refused.
+#[tactic(auto, unfolding(crate::specs::Interrupt::lines_step))]
 pub fn lines_step(r: Registers, lines: u64) -> Outcome
     ensures { result ≡ lines_step r lines }
 {
@@ -23,7 +25,7 @@ pub fn lines_step(r: Registers, lines: u64) -> Outcome
             answer: Answer::Done,
         }
     } else {
-        refuse(r, 2)
+        refuse(r, Refusal::Argument)
     }
 }
 
@@ -52,47 +54,41 @@ fn takeable_set(level: Level, r: Registers) -> u64
 }
 
 // The first interrupt of the set in the order of priority.
-fn first_by_priority(set: u64) -> Choice
+fn first_by_priority(set: u64) -> Option<u64>
     ensures { result ≡ first_of (test_bit set) priority }
 {
     let order: [u64; 6] = [11, 3, 7, 9, 1, 5];
-    let mut i: usize = 0;
-    while i < 6 {
-        let number = order[i];
+    for number in order {
         if has_bit(set, number) {
-            return Choice::Take(number);
+            return Some(number);
         }
-        i += 1;
     }
-    Choice::Nothing
+    None
 }
 
 // Whatever the order says, an interrupt bound for M goes before any bound for S.
-fn machine_bound_first(r: Registers) -> Choice
+fn machine_bound_first(r: Registers) -> Option<u64>
     ensures { result ≡ machine_bound_first r }
 {
     let machine = takeable_set(Level::Machine, r);
     let supervisor = takeable_set(Level::Supervisor, r);
     let first = first_by_priority(machine);
-    match first {
-        Choice::Take(number) => Choice::Take(number),
-        Choice::Nothing => first_by_priority(supervisor),
-    }
+    first.or_else(|| first_by_priority(supervisor))
 }
 
+#[tactic(auto, unfolding(crate::specs::Interrupt::interrupt_taken))]
 pub fn take_interrupt(r: Registers) -> Outcome
     ensures { result ≡ interrupt_taken r }
 {
-    let choice = machine_bound_first(r);
-    match choice {
-        Choice::Take(number) => {
+    match machine_bound_first(r) {
+        Some(number) => {
             let trap = Trap::Interrupt(number);
             Outcome {
                 registers: enter_level(trap_level(r, trap), trap, 0, r),
                 answer: Answer::DoneFlag(true),
             }
         }
-        Choice::Nothing => Outcome {
+        None => Outcome {
             registers: r,
             answer: Answer::DoneFlag(false),
         },

@@ -4,6 +4,7 @@
 ghost use Rattle.std.specs.Prelude.{◌≡◌};
 ghost use Rattle.trap.specs.Refusal.{refused_step};
 
+use pmp::Refusal;
 use registers::Registers;
 use steps::Answer;
 
@@ -19,18 +20,11 @@ pub struct Outcome {
     pub answer: Answer,
 }
 
-// What step 7 chooses: an interrupt to take, or none. Public because laws of the crates above speak of it.
-#[derive(Clone, Copy)]
-pub enum Choice {
-    Take(u64),
-    Nothing,
-}
-
-fn refuse(r: Registers, number: u64) -> Outcome
-    ensures { result ≡ refused_step r number }
+fn refuse(r: Registers, refusal: Refusal) -> Outcome
+    ensures { result ≡ refused_step r refusal }
 {
     Outcome {
         registers: r,
-        answer: Answer::Refused(number),
+        answer: Answer::Refused(refusal),
     }
 }

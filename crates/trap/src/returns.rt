@@ -16,6 +16,7 @@ fn cleared_mprv(mode: u64) -> u64
 }
 
 // mstatus after a return.
+#[tactic(auto, unfolding(crate::specs::Return::returned_status))]
 fn returned_status(level: Level, mstatus: u64) -> u64
     ensures { result ≡ returned_status level mstatus }
 {
@@ -27,6 +28,7 @@ fn returned_status(level: Level, mstatus: u64) -> u64
 }
 
 // The registers after a return: MRET for the machine level, SRET for the supervisor level.
+#[tactic(auto, unfolding(crate::specs::Return::returned))]
 pub fn return_registers(level: Level, r: Registers) -> Registers
     ensures { result ≡ returned level r }
 {
@@ -58,10 +60,11 @@ fn may_wait(r: Registers) -> bool
 pub fn next_pc(pc: u64) -> u64
     ensures { result ≡ (pc + 4) % 2 ^ 64 }
 {
-    std::num::wrapping_add_u64(pc, 4)
+    pc.wrapping_add(4)
 }
 
 // WFI.
+#[tactic(auto, unfolding(crate::specs::Return::waited))]
 pub fn wait(r: Registers) -> Outcome
     ensures { result ≡ waited r }
 {

@@ -8,6 +8,7 @@ use bits::has_bit;
 use registers::Registers;
 use steps::Answer;
 
+#[tactic(auto, unfolding(crate::specs::Time::advanced))]
 pub fn advance(r: Registers, target: u64) -> Outcome
     ensures { result ≡ advanced r target }
 {
@@ -30,10 +31,11 @@ fn count(inhibited: bool, counter: u64, more: u64) -> u64
     if inhibited {
         counter
     } else {
-        std::num::wrapping_add_u64(counter, more)
+        counter.wrapping_add(more)
     }
 }
 
+#[tactic(auto, unfolding(crate::specs::Time::elapsed))]
 pub fn elapse(r: Registers, cycles: u64, retired: u64) -> Outcome
     ensures { result ≡ elapsed r cycles retired }
 {

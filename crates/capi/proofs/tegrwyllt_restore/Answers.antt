@@ -1,51 +1,44 @@
-use mathlib.Core.Path.{sym, ◌∙◌}
-use mathlib.Core.Bool.{◌&&◌}
+use Prim.Native.Nat.{ℕ}
+use mathlib.Core.Path.{◌≡◌, ap, ◌∙◌}
+use mathlib.Core.Bool.{true}
+use mathlib.Core.List.{List}
 use native.Mathlib.Omega.{arith}
+use lib.ListN.{length, get_or}
+use borrow.Author.Tests.{eq-eqb}
+use Rattle.std.specs.Cmp.Derive.{both_true}
 use Rattle.bits.specs.Lists.{Words}
-use Rattle.bits.proofs.Conjunction.{both}
-use Rattle.capi.specs.Calls.{is_form, fits}
-use Rattle.capi.proofs.CallLaws.{fitting}
-use Rattle.capi.proofs.SaveLaws.{not-restored, restore-refused, restore-done}
-use borrow.Author.Rules.{rules}
+use Rattle.capi.specs.Calls.{is_form, restorable}
+use Rattle.capi.proofs.CallLaws.{chosen-some}
+use Rattle.capi.proofs.SaveLaws.{restore-refused, restore-done}
 use Rattle.capi.proofs.tegrwyllt_restore.Goals as goal
 
-pub returns-then-not-is_form-fit : goal.returns-then-not-is_form-fit
-returns-then-not-is_form-fit c = let a = c.args in
-    let both = not-restored a.form a.text.now a.hart.now a.map.now (sym ((λ j. c.is_form.ensures j && c.fit.ensures j)) ∙ c.if-not-is_form-fit.true) in
-    record {
-      value = both.0;
-      hart_after = both.1.0;
-      map_after = both.1.1;
-    }
-
-pub returns-then-refusal-ne0 : goal.returns-then-refusal-ne0
-returns-then-refusal-ne0 c =
+pub returns-in-Some-refusal : goal.returns-in-Some-refusal
+returns-in-Some-refusal c =
     let a = c.args in
-    let passed = sym (λ j. c.is_form.ensures j && c.fit.ensures j) ∙ c.if-not-is_form-fit.false in
-    let lengths = fitting c.args.hart.now c.args.map.now (both (is_form c.args.form) (fits c.args.hart.now c.args.map.now) passed).1 in
-    let words : Words 43 a.hart.now = record { count = lengths.0; below = λ i. omega (arith, c.type_inv.hart i) } in
-    let all = restore-refused a.form a.text.now a.hart.now a.map.now passed words c.form_of.ensures _ _ c.restore-read.ensures.value
-    c.refusal_of-refusal.ensures c.if-refusal-ne0.true in
+    let form = chosen-some (is_form a.form) c.in-Some.ensures in
+    let hart = c.in-Some-as_mut_array.ensures.cases in
+    let map = c.in-Some-as_mut_array-2.ensures.cases in
+    let t : restorable a.form a.hart.now a.map.now ≡ true =
+    both_true form.0 (both_true (eq-eqb (length a.hart.now) 43 hart.long) (eq-eqb (length a.map.now) 100 map.long)) in
+    let words : Words 43 a.hart.now =
+    record { count = hart.long; below = λ i. omega (arith, ap (λ (l : List ℕ). get_or l i 0) hart.same, c.type_inv.hart i) } in
+    let all = restore-refused a.form a.text.now a.hart.now a.map.now t form.1 _ _ c.restore-read.ensures.value c.refusal.ensures words c.in-Some-refusal.is c.from.ensures in
     record {
       value = all.0;
-      hart_after = all.1.0;
-      map_after = all.1.1;
+      hart_after = hart.same ∙ all.1.0;
+      map_after = map.same ∙ all.1.1;
     }
 
-pub put-requires : goal.put-requires
-put-requires c =
-    let passed = sym (λ j. c.is_form.ensures j && c.fit.ensures j) ∙ c.if-not-is_form-fit.false in
-    let lengths = fitting c.args.hart.now c.args.map.now (both (is_form c.args.form) (fits c.args.hart.now c.args.map.now) passed).1 in
-    lengths
-
-pub returns : goal.returns
-returns c =
+pub returns-in-None : goal.returns-in-None
+returns-in-None c =
     let a = c.args in
-    let passed = sym (λ j. c.is_form.ensures j && c.fit.ensures j) ∙ c.if-not-is_form-fit.false in
-    let lengths = fitting c.args.hart.now c.args.map.now (both (is_form c.args.form) (fits c.args.hart.now c.args.map.now) passed).1 in
-    let words : Words 43 a.hart.now = record { count = lengths.0; below = λ i. search rules } in
-    let all = restore-done a.form a.text.now a.hart.now a.map.now passed words c.form_of.ensures _ _ c.restore-read.ensures.value
-    c.refusal_of-refusal.ensures c.if-refusal-ne0.false c.put.ensures.hart_after c.put.ensures.map_after in
+    let form = chosen-some (is_form a.form) c.in-Some.ensures in
+    let hart = c.in-Some-as_mut_array.ensures.cases in
+    let map = c.in-Some-as_mut_array-2.ensures.cases in
+    let t : restorable a.form a.hart.now a.map.now ≡ true =
+    both_true form.0 (both_true (eq-eqb (length a.hart.now) 43 hart.long) (eq-eqb (length a.map.now) 100 map.long)) in
+    let all = restore-done a.form a.text.now a.hart.now a.map.now t form.1 _ _ c.restore-read.ensures.value c.refusal.ensures
+    c.in-None.is c.put.ensures.hart_after c.put.ensures.map_after in
     record {
       value = all.0;
       hart_after = all.1.0;

@@ -2,29 +2,29 @@
 use Rattle.std.proofs.lemmas.Slice.Eq.{slice_eq-Decides}
 use Rattle.std.proofs.lemmas.Bool.Decides.{Decides-eqb}
 use Rattle.std.specs.Cmp.Lexicographic.{pointwise}
-use Rattle.std.proofs.Common.{eqb, sym, refl, ap, ◌∙◌}
-use Rattle.ledger_text.proofs.Form.{length-unread, other-unread, resting_unread, text-read}
-use Rattle.ledger_text.specs.LedgerText.{read_as}
+use Rattle.std.proofs.Common.{eqb, sym, refl, ap, ◌∙◌, Some}
+use Rattle.ledger_text.proofs.Form.{length-unread, form_unread, other-unread, resting_unread, text-read}
 use borrow.Author.Tests.{not-true, not-false}
 use Rattle.bits.proofs.Conjunction.{contradiction}
 use Rattle.ledger_text.proofs.read.Goals as goal
 
 pub returns-then-text-ne-LENGTH : goal.returns-then-text-ne-LENGTH
-returns-then-text-ne-LENGTH c = c.unread.ensures ∙ length-unread c.args.text.now c.if-text-ne-LENGTH.true
+returns-then-text-ne-LENGTH c = length-unread c.args.text.now c.if-text-ne-LENGTH.true
+
+pub returns-in_err-words : goal.returns-in_err-words
+returns-in_err-words c = c.from_residual.ensures ∙ form_unread c.args.text.now (c.in_err-words.ensures.broken refl)
 
 pub returns-then-ne : goal.returns-then-ne
 returns-then-ne c =
     let t = c.args.text.now in
     let u = c.text_of-again.result in
     let same = pointwise eqb t u in
-    c.unread-then-ne.ensures
-    ∙ other-unread t c.words_in-words.result u c.words_in-words.ensures c.text_of-again.ensures
+    other-unread t c.in_ok-words.words u c.in_ok-words.ensures.read c.text_of-again.ensures
     (λ e. contradiction ((slice_eq-Decides Decides-eqb t u same refl).1 e) (not-true same (sym c.ne.ensures ∙ c.if-ne.true)))
 
 pub returns-then-not-is_ledger : goal.returns-then-not-is_ledger
 returns-then-not-is_ledger c =
-    c.unread-then-not-is_ledger.ensures
-    ∙ resting_unread c.args.text.now c.words_in-words.result c.text_of-again.result c.words_in-words.ensures c.text_of-again.ensures
+    resting_unread c.args.text.now c.in_ok-words.words c.text_of-again.result c.in_ok-words.ensures.read c.text_of-again.ensures
     (sym c.is_ledger.ensures ∙ c.if-not-is_ledger.true)
 
 pub returns : goal.returns
@@ -32,7 +32,7 @@ returns c =
     let t = c.args.text.now in
     let u = c.text_of-again.result in
     let same = pointwise eqb t u in
-    ap read_as c.load-ledger.ensures
-    ∙ text-read t c.words_in-words.result u c.words_in-words.ensures c.text_of-again.ensures
+    ap Some c.load.ensures
+    ∙ text-read t c.in_ok-words.words u c.in_ok-words.ensures.read c.text_of-again.ensures
     ((slice_eq-Decides Decides-eqb t u same refl).0 (not-false same (sym c.ne.ensures ∙ c.if-ne.false)))
     (sym c.is_ledger.ensures ∙ c.if-not-is_ledger.false)

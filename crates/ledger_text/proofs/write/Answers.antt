@@ -1,13 +1,7 @@
 -- `ledger_text::write` meets its contract. Assumes nothing.
 use Rattle.std.proofs.Common.{length, drop, ◌++◌, List, ℕ, ap, sym, ◌∙◌, length-take-le}
-use Rattle.ledger_text.proofs.Form.{unwritten, text-length, text-written}
+use Rattle.ledger_text.proofs.Form.{text-length, text-written}
 use Rattle.ledger_text.proofs.write.Goals as goal
-
-pub returns-then-buffer-lt-LENGTH : goal.returns-then-buffer-lt-LENGTH
-returns-then-buffer-lt-LENGTH c =
-    let a = c.args in
-    let both = unwritten a.ledger a.buffer.now c.if-buffer-lt-LENGTH.true in
-    record { value = both.0; buffer_after = both.1 }
 
 pub copy_from_slice-requires : goal.copy_from_slice-requires
 copy_from_slice-requires c =

@@ -1,8 +1,7 @@
 -- `memory_text::is_memory_text` meets its contract. Assumes nothing.
-use Rattle.memory_text.proofs.Form.{length-refused, more_refused, lines_start, lines_more, lines-all}
+use Rattle.memory_text.proofs.Form.{length-refused, more_refused, lines_start, lines_more, lines_passed}
 use Rattle.lines.specs.Lines.{bytes_of}
-use mathlib.Core.Path.{sym, ◌∙◌}
-use native.Mathlib.Omega.{arith}
+use Rattle.std.proofs.Common.{◌+◌, ◌-◌, ◌*◌, ◌/◌, not, length, sym, ap, ◌∙◌, arith}
 use Rattle.memory_text.proofs.is_memory_text.Goals as goal
 
 pub returns-then-text-total : goal.returns-then-text-total
@@ -14,22 +13,35 @@ returns-then-total-eq0 c = length-refused c.args.text.now (λ e. absurd (omega a
 pub returns-then-total-gt65537 : goal.returns-then-total-gt65537
 returns-then-total-gt65537 c = more_refused c.args.text.now (omega arith)
 
+pub returns-then-is_none : goal.returns-then-is_none
+unfolding bytes_of
+returns-then-is_none c =
+    let gone = c.is_none.ensures ∙ ap not c.if-is_none.true in
+    sym (lines_start c.args.text.now (omega arith) (omega arith) ∙ rw (← c.read_line.ensures, gone))
+
 pub loop-i-init : goal.loop-i-init
 unfolding bytes_of
 loop-i-init c =
-    let t = c.args.text.now in
-    (omega arith, lines_start t (omega arith) (omega arith) ∙ rw (← c.read_line-ok.ensures))
+    let found = c.is_none.ensures ∙ ap not c.if-is_none.false in
+    lines_start c.args.text.now (omega arith) (omega arith) ∙ rw (← c.read_line.ensures, found)
+
+pub returns-then-is_none-2 : goal.returns-then-is_none-2
+unfolding bytes_of
+returns-then-is_none-2 c =
+    let i = c.loop-i.i in
+    let n = length c.args.text.now / 22 in
+    let gone = c.is_none-in-loop-i.ensures ∙ ap not c.if-is_none-2.true in
+    sym (c.loop-i.invariant ∙ lines_more c.args.text.now (n - i) (n - (i + 1)) (22 * i) (22 * (i + 1)) (omega arith) (omega arith)
+    ∙ rw (← c.read_line-in-loop-i.ensures, gone))
 
 pub loop-i-preserved : goal.loop-i-preserved
 unfolding bytes_of
 loop-i-preserved c =
-    let r = c in
-    let l = r in
-    let a = l.args in
-    (l.loop-i.invariant.0, l.loop-i.invariant.1 ∙ lines_more a.text.now _ l.loop-i.i l.loop-i.ok r.read_line-ok-in-loop-i.result r.loop-i-test.true r.read_line-ok-in-loop-i.ensures)
+    let i = c.loop-i.i in
+    let n = length c.args.text.now / 22 in
+    let found = c.is_none-in-loop-i.ensures ∙ ap not c.if-is_none-2.false in
+    c.loop-i.invariant ∙ lines_more c.args.text.now (n - i) (n - (i + 1)) (22 * i) (22 * (i + 1)) (omega arith) (omega arith)
+    ∙ rw (← c.read_line-in-loop-i.ensures, found)
 
 pub returns : goal.returns
-returns c =
-    let l = c.loop-i in
-    let a = c.args in
-    sym (l.invariant.1 ∙ lines-all a.text.now _ l.i l.ok c.loop-i-test.false)
+returns c = let l = c.loop-i in sym (l.invariant ∙ lines_passed c.args.text.now _ (22 * l.i) (omega arith))

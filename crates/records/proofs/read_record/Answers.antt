@@ -1,30 +1,29 @@
 use Rattle.records.proofs.Reading.{record_judged, record_short}
-use Rattle.records.specs.declared.Record.TheVariants.{Words, Broken}
-use Rattle.records.specs.Records.{read_record}
 use Rattle.lines.specs.Lines.{bytes_of}
-use mathlib.Core.Bool.{cond, ◌&&◌}
-use mathlib.Core.Path.{◌≡◌, sym}
+use Rattle.std.proofs.Common.{sym, ◌∙◌}
 use Rattle.records.proofs.read_record.Goals as goal
 
 pub returns-then-text-ne60 : goal.returns-then-text-ne60
 returns-then-text-ne60 c = record_short c.args.text.now c.if-text-ne60.true
 
-pub returns-then-step-a : goal.returns-then-step-a
+pub returns-in-Some-Some-Some : goal.returns-in-Some-Some-Some
 unfolding bytes_of
-returns-then-step-a c =
-    let s = c.read_line-step.result in
-    let a = c.read_line-a.result in
-    let b = c.read_line-b.result in
-    let judged : cond ((s.ok && a.ok) && b.ok) (Words s.word a.word b.word) Broken ≡ read_record c.args.text.now =
-    rw (c.read_line-step.ensures, c.read_line-a.ensures, c.read_line-b.ensures) (sym (record_judged c.args.text.now c.if-text-ne60.false)) in
-    rw c.if-step-a.true at judged
+returns-in-Some-Some-Some c =
+    let l = c.in-Some-Some-Some in
+    sym (record_judged c.args.text.now c.if-text-ne60.false ∙ rw (← c.read_line-step.ensures, ← c.read_line-a.ensures, ← c.read_line-b.ensures, l.is-0, l.is-1, l.is-2))
 
-pub returns-else-step-a : goal.returns-else-step-a
+pub returns-in_default : goal.returns-in_default
 unfolding bytes_of
-returns-else-step-a c =
-    let s = c.read_line-step.result in
-    let a = c.read_line-a.result in
-    let b = c.read_line-b.result in
-    let judged : cond ((s.ok && a.ok) && b.ok) (Words s.word a.word b.word) Broken ≡ read_record c.args.text.now =
-    rw (c.read_line-step.ensures, c.read_line-a.ensures, c.read_line-b.ensures) (sym (record_judged c.args.text.now c.if-text-ne60.false)) in
-    rw c.if-step-a.false at judged
+returns-in_default c =
+    let l = c.in_default in
+    sym (record_judged c.args.text.now c.if-text-ne60.false ∙ rw (← c.read_line-step.ensures, ← c.read_line-a.ensures, ← c.read_line-b.ensures, l.is-0, l.is-1, l.is-2))
+
+pub returns-in_default-2 : goal.returns-in_default-2
+unfolding bytes_of
+returns-in_default-2 c =
+    let l = c.in_default in
+    sym (record_judged c.args.text.now c.if-text-ne60.false ∙ rw (← c.read_line-step.ensures, ← c.read_line-a.ensures, l.is-0, l.is-1))
+
+pub returns-in_default-3 : goal.returns-in_default-3
+unfolding bytes_of
+returns-in_default-3 c = sym (record_judged c.args.text.now c.if-text-ne60.false ∙ rw (← c.read_line-step.ensures, c.in_default.is-0))

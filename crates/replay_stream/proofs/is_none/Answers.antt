@@ -1,11 +1,15 @@
-use Rattle.std.proofs.Common.{length, ne_eqb}
+use Rattle.std.proofs.Common.{◌≡◌, ℕ, suc, Bool, ◌&&◌, List, [], ◌∷◌, eqb, length, refl, sym, ap, ◌∙◌, arith, ne_eqb}
+use Rattle.std.proofs.Math.Bool.{and-true, and-false}
+use lib.Pointwise.{pointwise}
 use Rattle.replay_stream.specs.Streams.{is_none}
 use Rattle.replay_stream.proofs.is_none.Goals as goal
 
-pub returns-then-name-ne1 : goal.returns-then-name-ne1
+-- the one byte `-`
+is-dash : (name : List ℕ) → pointwise eqb name (45 ∷ []) ≡ is_none name
 unfolding is_none
-returns-then-name-ne1 c = rw (ne_eqb (length c.args.name.now) 1 c.if-name-ne1.true)
+is-dash [] = refl
+is-dash (x ∷ []) = and-true (eqb x 45)
+is-dash (x ∷ y ∷ s) = and-false (eqb x 45) ∙ sym (ap (λ (b : Bool). b && eqb x 45) (ne_eqb (suc (suc (length s))) 1 (λ e. omega arith)))
 
 pub returns : goal.returns
-unfolding is_none
-returns c = rw c.if-name-ne1.false
+returns c = c.eq.ensures ∙ ap (pointwise eqb c.args.name.now) c.as_slice.ensures ∙ is-dash c.args.name.now

@@ -1,5 +1,5 @@
--- `capi::maps::store_map` meets its contract: the words up to a range's place are the map's. Assumes nothing.
-use Prim.Native.Nat.{◌+◌, ◌*◌, ◌-◌, ◌≤◌}
+-- The words up to a range's place are the map's.
+use Prim.Native.Nat.{◌+◌, ◌*◌}
 use mathlib.Core.Path.{◌≡◌}
 use mathlib.Core.List.{◌++◌}
 use lib.ListN.{length, take, drop}
@@ -8,8 +8,4 @@ use Rattle.capi.proofs.maps.store_map.Given as goal
 
 abbrev pub invariant-loop-k : goal.invariant-loop-k
 invariant-loop-k l =
-    (l.k ≤ 33) × (l.at ≡ 3 * l.k + 1) × (length l.words ≡ 100) × (length l.map.ranges ≡ 33)
-    × (take l.at l.words ++ range_words (drop l.k l.map.ranges) ≡ map_words l.map)
-
-abbrev pub decreases-loop-k : goal.decreases-loop-k
-decreases-loop-k l = 33 - l.k
+    (length l.words ≡ 100) × (take (3 * l.k + 1) l.words ++ range_words (drop l.k l.fn.map.ranges) ≡ map_words l.fn.map)

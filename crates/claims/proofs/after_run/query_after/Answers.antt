@@ -1,14 +1,8 @@
-use mathlib.Core.Path.{◌≡◌, refl, ap, ◌∙◌}
-use mathlib.Core.Bool.{Bool, true, false, cond}
-use borrow.Author.Tests.{not-true, not-false}
-use borrow.Author.Rules.{rules}
-use Rattle.paging.specs.Memory.{memory_at}
-use Rattle.map.specs.declared.Map.{Map}
+use mathlib.Core.Path.{refl, ap, ◌∙◌}
+use mathlib.Core.Bool.{true, false}
+use Rattle.paging.specs.Memory.{memory_of}
 use Rattle.hart.specs.declared.Mapped.{Mapped}
-use Rattle.hart.specs.Steps.{map_for, hart_with}
 use Rattle.hart.specs.Queries.{query_answer}
-use Rattle.hart.specs.Runs.{with, left_by}
-use Rattle.claims.specs.AfterRun.{steps_in}
 use Rattle.claims.proofs.AfterRun.{left_by_lem}
 use Rattle.claims.proofs.after_run.query_after.Goals as goal
 
@@ -18,8 +12,8 @@ returns-then-not-remap c =
     c.query.ensures.value
     ∙ ap (λ (l : Mapped). query_answer l.hart l.map a.mode a.access a.address a.size)
     ((let a = c.args in
-    left_by_lem a.hart a.map (memory_at a.memory.now a.base) a.steps.now c.to_words-words.ensures.value c.to_words-words.ensures.result_value _ c.run-remap.ensures.value
-    (c.of_words-after.ensures ∙ c.run-remap.ensures.words_after_2) false (c.if-not-remap.true) refl))
+    left_by_lem a.hart a.map (memory_of a.memory) a.steps.now c.from-words.ensures.0 c.from-words.ensures.1 _ c.run-remap.ensures.value
+    (c.from-after.ensures ∙ c.run-remap.ensures.words_after_2) false (c.if-not-remap.true) refl))
 
 pub returns : goal.returns
 returns c =
@@ -27,5 +21,5 @@ returns c =
     c.query-2.ensures.value
     ∙ ap (λ (l : Mapped). query_answer l.hart l.map a.mode a.access a.address a.size)
     ((let a = c.args in
-    left_by_lem a.hart a.map (memory_at a.memory.now a.base) a.steps.now c.to_words-words.ensures.value c.to_words-words.ensures.result_value _ c.run-remap.ensures.value
-    (c.of_words-after.ensures ∙ c.run-remap.ensures.words_after_2) true (c.if-not-remap.false) c.map_for-fresh.ensures))
+    left_by_lem a.hart a.map (memory_of a.memory) a.steps.now c.from-words.ensures.0 c.from-words.ensures.1 _ c.run-remap.ensures.value
+    (c.from-after.ensures ∙ c.run-remap.ensures.words_after_2) true (c.if-not-remap.false) c.map_for-fresh.ensures))

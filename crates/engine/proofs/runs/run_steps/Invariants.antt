@@ -1,22 +1,11 @@
-use Prim.Native.Nat.{◌-◌, ◌*◌, ◌≤◌}
-use mathlib.Core.Path.{◌≡◌}
-use mathlib.Core.Bool.{true, ◌||◌}
-use lib.ListN.{length, drop}
-use lib.Seq.{sets}
-use Rattle.steps.specs.Decode.{steps_of, name_steps}
-use Rattle.paging.specs.Memory.{memory_at}
-use Rattle.state.specs.Hold.{can_hold}
-use Rattle.state.specs.Words.{state_of}
-use Rattle.engine.specs.Runs.{lent, after_all, answers_of, any_remaps}
+use Rattle.std.proofs.Common.{length}
+use Rattle.paging.specs.Memory.{memory_of}
+use Rattle.engine.proofs.RunLaws.{Ongoing}
 use Rattle.engine.proofs.runs.run_steps.Given as goal
 
-abbrev pub invariant-loop-i : goal.invariant-loop-i
-invariant-loop-i l =
-    (l.i ≤ length l.steps) × (length l.words ≡ 43) × (length l.answers ≡ length l.initial.answers) × (name_steps (drop l.i l.steps) ≡ true) × (l.held ≡ can_hold (state_of l.words))
-    × (after_all (state_of l.words) (lent (memory_at l.memory l.base) (steps_of (drop l.i l.steps))) ≡ after_all (state_of l.initial.words) (lent (memory_at l.memory l.base) (steps_of l.steps)))
-    × ((l.remap || any_remaps (state_of l.words) (lent (memory_at l.memory l.base) (steps_of (drop l.i l.steps)))) ≡ any_remaps (state_of l.initial.words) (lent (memory_at l.memory l.base) (steps_of l.steps)))
-    × (sets l.answers l.place (answers_of (state_of l.words) (lent (memory_at l.memory l.base) (steps_of (drop l.i l.steps)))) ≡ sets l.initial.answers 0 (answers_of (state_of l.initial.words) (lent (memory_at l.memory l.base) (steps_of l.steps))))
-    × (3 * l.place ≡ 4 * l.i)
+abbrev pub invariant-loop-rest : goal.invariant-loop-rest
+invariant-loop-rest l =
+    Ongoing (memory_of l.memory) l.initial.words l.steps l.initial.answers l.words l.held l.remap l.rest l.answers l.place
 
-abbrev pub decreases-loop-i : goal.decreases-loop-i
-decreases-loop-i l = length l.steps - l.i
+abbrev pub decreases-loop-rest : goal.decreases-loop-rest
+decreases-loop-rest l = length l.rest

@@ -1,18 +1,19 @@
-use Rattle.protection.proofs.ConfigLoops.{unpack_start, unpack_more, unpack_all}
-use Prim.Native.Nat.{◌+◌}
-use mathlib.Core.Path.{sym, ◌∙◌}
+use Prim.Native.Nat.{ℕ}
+use mathlib.Core.List.{List}
+use mathlib.Core.Path.{sym, ap, ◌∙◌}
 use native.Mathlib.Omega.{arith}
+use lib.ListN.{get_or}
+use Rattle.protection.proofs.Bytes.{byte_put, none_put}
 use Rattle.protection.proofs.configs.unpack.Goals as goal
-
-pub loop-i-init : goal.loop-i-init
-loop-i-init c = (omega arith, unpack_start c.args.given c.args.start c.args.word)
 
 pub loop-i-preserved : goal.loop-i-preserved
 loop-i-preserved c =
     let l = c.loop-i in
-    (omega arith, l.invariant.1 ∙ unpack_more l.cfgs c.args.start l.i l.rest c.lowest_byte.result (omega arith) c.lowest_byte.ensures)
+    let a = c.args in
+    let byte = ap (λ (bytes : List ℕ). get_or bytes l.i 0) c.to_le_bytes.ensures in
+    sym (byte_put a.word a.start l.i (get_or c.to_le_bytes.result l.i 0) l.cfgs c.loop-i-test.true byte) ∙ l.invariant
 
 pub returns : goal.returns
 returns c =
     let l = c.loop-i in
-    sym (l.invariant.1 ∙ unpack_all l.cfgs (c.args.start + l.i) l.i l.rest c.loop-i-test.false)
+    sym (none_put _ _ _ l.cfgs (omega arith)) ∙ l.invariant

@@ -1,25 +1,8 @@
-use Prim.Native.Nat.{◌+◌}
-use mathlib.Core.Path.{ap, ◌∙◌}
-use mathlib.Core.Bool.{Bool, ◌&&◌}
-use native.Mathlib.Omega.{arith}
-use lib.ListN.{get_or, drop}
-use borrow.Author.Rules.{rules}
-use Rattle.bits.specs.Lists.{all}
-use Rattle.bits.proofs.ListLaws.{all_next, all_end}
-use Rattle.protection.specs.Hold.{address_holdable}
-use Rattle.protection.proofs.HeldWords.{or_below}
+use Rattle.std.proofs.Common.{rules, ◌≡◌}
+use Rattle.std.specs.Prelude.{fold}
+use lib.Bits.{bit_or}
+use Rattle.protection.proofs.Bytes.{fold_below}
 use Rattle.protection.proofs.hold.addresses_can_hold.Goals as goal
 
-pub loop-i-preserved : goal.loop-i-preserved
-loop-i-preserved c =
-    let l = c.loop-i in
-    let a = c.args.addrs.now in (
-      omega arith,
-      ap (λ (b : Bool). b && all address_holdable (drop (l.i + 1) a)) (or_below 54 l.any (get_or a l.i 0))
-          ∙ all_next address_holdable a l.i (address_holdable l.any) (search rules) l.invariant.1,
-    )
-
 pub returns : goal.returns
-returns c =
-    let l = c.loop-i in
-    all_end address_holdable c.args.addrs.now l.i (address_holdable l.any) (search rules) l.invariant.1
+returns c = let any : c.fold-any.result ≡ fold bit_or 0 c.args.addrs.now = search rules in rw any (fold_below 54 0 c.args.addrs.now)

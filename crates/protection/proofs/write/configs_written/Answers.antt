@@ -1,18 +1,20 @@
-use mathlib.Core.Path.{sym, ◌∙◌}
+use Prim.Native.Nat.{ℕ}
+use mathlib.Core.List.{List}
+use mathlib.Core.Path.{sym, ap, ◌∙◌}
 use native.Mathlib.Omega.{arith}
-use Rattle.protection.proofs.WriteLoop.{configs_next, configs_end}
+use lib.ListN.{get_or}
+use Rattle.protection.proofs.Bytes.{byte_written, none_left}
 use Rattle.protection.proofs.write.configs_written.Goals as goal
 
-pub loop-left-preserved : goal.loop-left-preserved
-loop-left-preserved c =
-    let l = c.loop-left in (
-      omega arith,
-      omega arith,
-      rw (c.config_written.ensures, c.lowest_byte.ensures)
-          (sym (configs_next c.args.grain l.left l.at l.rest l.cfgs c.loop-left-test.true) ∙ l.invariant.2),
-    )
+pub loop-i-preserved : goal.loop-i-preserved
+loop-i-preserved c =
+    let l = c.loop-i in
+    let a = c.args in
+    let byte = ap (λ (bytes : List ℕ). get_or bytes l.i 0) c.to_le_bytes.ensures in
+    rw c.config_written.ensures
+    (sym (byte_written a.grain a.value a.first l.i (get_or c.to_le_bytes.result l.i 0) l.cfgs c.loop-i-test.true byte) ∙ l.invariant)
 
 pub returns : goal.returns
 returns c =
-    let l = c.loop-left in
-    sym (configs_end c.args.grain l.left l.at l.rest l.cfgs (omega arith)) ∙ l.invariant.2
+    let l = c.loop-i in
+    sym (none_left _ _ _ _ l.cfgs (omega arith)) ∙ l.invariant

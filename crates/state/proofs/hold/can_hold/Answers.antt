@@ -5,6 +5,4 @@ use Rattle.state.proofs.SliceLaws.{all-loaded}
 use Rattle.state.proofs.hold.can_hold.Goals as goal
 
 pub returns : goal.returns
-returns c =
-    let t = c in
-    c.words_can_hold.ensures ∙ ap can_hold (all-loaded t.to_words-words.result (search rules) ∙ t.to_words-words.ensures.result_value)
+returns c = c.words_can_hold.ensures ∙ ap can_hold (all-loaded c.from-words.result (search rules) ∙ c.from-words.ensures.1)

@@ -7,18 +7,14 @@ use Rattle.state.proofs.words.pmp_at.Goals as goal
 
 pub loop-i-init : goal.loop-i-init
 unfolding elements
-loop-i-init c = (omega arith, refl)
+loop-i-init c = refl
 
 pub loop-i-preserved : goal.loop-i-preserved
 loop-i-preserved c =
     let l = c.loop-i in
-    let a = c.args in
-    (omega arith, sym (copy_next l.addrs a.words.now l.i (25 + l.i) (16 - (l.i + 1)) (omega arith) refl (omega arith)) ∙ l.invariant.1)
+    sym (copy_next l.addrs c.args.words.now l.i (25 + l.i) (16 - (l.i + 1)) (omega arith) refl (omega arith)) ∙ l.invariant
 
 pub returns : goal.returns
 returns c =
-    let s = c in
-    let e = s in
-    let l = e.loop-i in
-    let a = e.args in
-    rw (s.configs_of-cfgs.ensures, sym (sym (copy_end l.addrs a.words.now l.i (25 + l.i) (omega arith)) ∙ l.invariant.1))
+    let l = c.loop-i in
+    rw (c.configs_of-cfgs.ensures, sym (sym (copy_end l.addrs c.args.words.now l.i (25 + l.i) (omega arith)) ∙ l.invariant))

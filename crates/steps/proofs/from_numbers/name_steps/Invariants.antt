@@ -1,10 +1,10 @@
--- The numbers from a place on decide what is left to decide.
-use Rattle.std.proofs.Common.{◌≡◌, ◌-◌, ◌≤◌, length, drop}
+-- The numbers that are left decide as all of them do.
+use Rattle.std.proofs.Common.{◌≡◌, length}
 use Rattle.steps.specs.Decode.{name_steps}
 use Rattle.steps.proofs.from_numbers.name_steps.Given as goal
 
-abbrev pub invariant-loop-at : goal.invariant-loop-at
-invariant-loop-at l = (l.at ≤ length l.steps) × (name_steps (drop l.at l.steps) ≡ name_steps l.steps)
+abbrev pub invariant-loop-rest : goal.invariant-loop-rest
+invariant-loop-rest l = name_steps l.rest ≡ name_steps l.steps
 
-abbrev pub decreases-loop-at : goal.decreases-loop-at
-decreases-loop-at l = length l.steps - l.at
+abbrev pub decreases-loop-rest : goal.decreases-loop-rest
+decreases-loop-rest l = length l.rest

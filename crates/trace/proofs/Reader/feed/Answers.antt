@@ -1,10 +1,10 @@
-use Rattle.paging.specs.Memory.{memory_at}
+use Rattle.paging.specs.Memory.{memory_of}
 use Rattle.trace.proofs.FeedLaws.{fed_value}
 use Rattle.trace.proofs.Reader.feed.Goals as goal
 
 pub returns : goal.returns
 returns c = let a = c.args in
-    let both = fed_value (memory_at a.memory.now a.base) a.self a.hart a.map a.scrap.now a.answers.now c.to_words-words.ensures.result_value (c.feed_words-next.ensures a.map)
+    let both = fed_value (memory_of a.memory) a.self a.hart a.map a.scrap.now a.answers.now c.from-words.ensures.1 (c.feed_words-next.ensures a.map)
     c.handed_back-after.ensures in
     record {
       value = both.0;

@@ -20,9 +20,9 @@ returns-then-out-lt4096 c = let a = c.args in
       upper_bound = both.1.1;
     }
 
-pub returns-then-refusal-eq0 : goal.returns-then-refusal-eq0
-returns-then-refusal-eq0 c = let a = c.args in
-    let both = finish_done a.self a.out.now c.put_ending.new.out c.put_ending.result c.if-self.false c.if-out-lt4096.false c.if-refusal-eq0.true
+pub returns-in-None : goal.returns-in-None
+returns-in-None c = let a = c.args in
+    let both = finish_done a.self a.out.now c.put_ending.new.out c.put_ending.result c.if-self.false c.if-out-lt4096.false c.in-None.is
     c.left.ensures c.put_ending.ensures in
     record {
       value = both.0;
@@ -30,11 +30,11 @@ returns-then-refusal-eq0 c = let a = c.args in
       upper_bound = both.1.1;
     }
 
-pub returns-else-refusal-eq0 : goal.returns-else-refusal-eq0
+pub returns-in-Some : goal.returns-in-Some
 unfolding bytes_of
-returns-else-refusal-eq0 c = let a = c.args in
-    let both = finish_refused a.self a.out.now c.put_numbered.new.out c.put_numbered.result c.if-self.false c.if-out-lt4096.false c.if-refusal-eq0.false
-    c.put_numbered.ensures in
+returns-in-Some c = let a = c.args in
+    let both = finish_refused a.self a.out.now _ c.put_refused.new.out c.put_refused.result c.if-self.false c.if-out-lt4096.false c.in-Some.is
+    c.put_refused.ensures in
     record {
       value = both.0;
       out_after = both.1.0;

@@ -1,11 +1,10 @@
-use Rattle.trace.specs.Endings.{range_lines}
+use Rattle.std.proofs.Common.{◌+◌, ◌*◌, ◌≤◌, take}
 use Rattle.trace.specs.Buffers.{Put}
-use Rattle.std.proofs.Common.{◌≡◌, ◌+◌, ◌-◌, ◌*◌, ◌≤◌, length, take}
+use Rattle.trace.specs.Endings.{range_lines}
 use Rattle.trace.proofs.ending.put_ranges.Given as goal
 
-abbrev pub invariant-loop-k : goal.invariant-loop-k
-invariant-loop-k l =
-    (l.k ≤ l.n) × (l.n ≤ 33) × (length l.map.ranges ≡ 33) × (l.next ≤ l.place + 64 * l.k) × Put l.initial.out l.place (range_lines (take l.k l.map.ranges)) l.out l.next
-
-abbrev pub decreases-loop-k : goal.decreases-loop-k
-decreases-loop-k l = l.n - l.k
+abbrev pub invariant-loop-range : goal.invariant-loop-range
+invariant-loop-range l = record {
+  room : l.next ≤ l.place + 64 * l.range-index;
+  put : Put l.initial.out l.place (range_lines (take l.range-index l.range-items)) l.out l.next;
+}

@@ -1,5 +1,0 @@
--- `map::pass::start` meets its contract. Assumes nothing.
-use Rattle.map.proofs.pass.start.Goals as goal
-
-pub returns : goal.returns
-returns c = rw c.first_bytes.ensures

@@ -1,8 +1,0 @@
--- `paging::access::is_translated` meets its contract. Assumes nothing.
-use Rattle.paging.proofs.access.is_translated.Goals as goal
-
-pub returns-in-User : goal.returns-in-User
-returns-in-User c = rw c.in-User.is
-
-pub returns-in-Supervisor : goal.returns-in-Supervisor
-returns-in-Supervisor c = rw c.in-Supervisor.is

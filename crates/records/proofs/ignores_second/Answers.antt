@@ -1,4 +1,0 @@
-use Rattle.records.proofs.ignores_second.Goals as goal
-
-pub returns : goal.returns
-returns c = rw c.ignores_first.ensures

@@ -1,7 +1,0 @@
-use Rattle.trap.proofs.returns.may_return.Goals as goal
-
-pub returns-in-Supervisor : goal.returns-in-Supervisor
-returns-in-Supervisor c = rw c.in-Supervisor.is
-
-pub returns-in-Machine : goal.returns-in-Machine
-returns-in-Machine c = rw c.in-Machine.is
