@@ -4,11 +4,20 @@
 use std::io;
 use text::Form;
 
-const USAGE: &[u8] = b"usage: convert TO <TEXT
-Converts a saved text to the form TO, which is 1 or 2. TEXT is in the other form.
-Output is whole if it ends with the line of the form's last key, `pmpaddr15` or `grain`,
-or is `refused 4`, `refused 5` or `refused 12` alone.
-";
+const USAGE: [&[u8]; 4] = [
+    b"usage: convert TO <TEXT\n",
+    b"Converts a saved text to the form TO, which is 1 or 2. TEXT is in the other form.\n",
+    b"Output is whole if it ends with the line of the form's last key, `pmpaddr15` or `grain`,\n",
+    b"or is `refused 4`, `refused 5` or `refused 12` alone.\n",
+];
+
+// Line by line, so that those for which there is room come out where the rest cannot be written. `replay` has its like, for the reason below.
+fn usage(to: &impl Print) -> io::Result<()> {
+    for line in USAGE {
+        to.write_all(line)?;
+    }
+    Ok(())
+}
 
 // Tells what is wrong with the arguments. Nothing goes to standard output. `replay` has its like: one function for both would be a public one of which no
 // clause can say anything.
@@ -18,7 +27,7 @@ fn wrong(rt: HostRuntime, what: &[u8], argument: &[u8]) -> io::Result<()> {
     err.write_all(what)?;
     err.write_all(argument)?;
     err.write_all(b"\n")?;
-    err.write_all(USAGE)
+    usage(&err)
 }
 
 // One byte more than a text of the second form has is enough to see that the input is too long. What cannot be read or written is told.
@@ -36,7 +45,7 @@ fn convert(rt: HostRuntime, to: Form) {
 
 fn with_argument(rt: HostRuntime, to: &[u8]) -> io::Result<()> {
     match to {
-        b"--help" => return rt.write_all(USAGE),
+        b"--help" => return usage(&rt),
         b"1" => convert(rt, Form::First),
         b"2" => convert(rt, Form::Second),
         _ => return wrong(rt, b"TO is 1 or 2, not ", to),

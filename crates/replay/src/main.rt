@@ -4,11 +4,20 @@
 
 use std::io;
 
-const USAGE: &[u8] = b"usage: replay [START] [MEMORY] <TRACE
-Replays a trace from the saved text, of either form, in the file START, or from reset, with
-the words in the file MEMORY for page tables, or none. Either may be `-`, for no file.
-Output is whole if its last line is `left N`, or `refused 4` or `refused 5` alone.
-";
+const USAGE: [&[u8]; 4] = [
+    b"usage: replay [START] [MEMORY] <TRACE\n",
+    b"Replays a trace from the saved text, of either form, in the file START, or from reset, with\n",
+    b"the words in the file MEMORY for page tables, or none. Either may be `-`, for no file.\n",
+    b"Output is whole if its last line is `left N`, or `refused 4` or `refused 5` alone.\n",
+];
+
+// Line by line, so that those for which there is room come out where the rest cannot be written. `convert` has its like, for the reason below.
+fn usage(to: &impl Print) -> io::Result<()> {
+    for line in USAGE {
+        to.write_all(line)?;
+    }
+    Ok(())
+}
 
 // Tells what is wrong with the arguments. Nothing goes to standard output. `convert` has its like: one function for both would be a public one of which no
 // clause can say anything.
@@ -18,7 +27,7 @@ fn wrong(rt: HostRuntime, what: &[u8], argument: &[u8]) -> io::Result<()> {
     err.write_all(what)?;
     err.write_all(argument)?;
     err.write_all(b"\n")?;
-    err.write_all(USAGE)
+    usage(&err)
 }
 
 // `-` alone is no option.
@@ -28,7 +37,7 @@ fn is_option(argument: &[u8]) -> bool {
 
 fn with_arguments(rt: HostRuntime, start: &[u8], memory: &[u8]) -> io::Result<()> {
     if start == b"--help".as_slice() {
-        rt.write_all(USAGE)
+        usage(&rt)
     } else if is_option(start) {
         wrong(rt, b"unknown option ", start)
     } else if is_option(memory) {

@@ -70,6 +70,9 @@ fn pieces<R: Read>(
     }
 }
 
+// Its arrays lie in a frame of its own: in that of the caller they would need room before the arguments are judged, and a usage text or a message would want the
+// stack of a replay.
+#[inline(never)]
 fn replay<R: Read>(
     rt: HostRuntime,
     memory: Memory<'_>,
@@ -192,7 +195,9 @@ fn lend_read<R: Read>(
     replay(rt, memory, records, start)
 }
 
-// Replays them with the memory in a file. One byte more than a text of 65,536 words has is enough to see that the file is too long.
+// Replays them with the memory in a file. One byte more than a text of 65,536 words has is enough to see that the file is too long. Its arrays, of two mebibytes,
+// lie in a frame of its own too.
+#[inline(never)]
 fn lend_file<R: Read>(
     rt: HostRuntime,
     path: &[u8],

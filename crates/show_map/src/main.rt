@@ -20,17 +20,6 @@ impl fmt::Display for Entry {
 }
 
 #[derive(Clone, Copy)]
-struct RangeText(Range);
-
-impl fmt::Display for RangeText {
-    fn fmt<W: fmt::Write>(&self, f: &mut fmt::Formatter<W>) -> fmt::Result {
-        let Range { first, last, owner } = self.0;
-        let owner = Entry(owner);
-        write!(f, "range {first:016x} {last:016x} {owner}")
-    }
-}
-
-#[derive(Clone, Copy)]
 struct ModeText(Mode);
 
 impl fmt::Display for ModeText {
@@ -56,27 +45,32 @@ impl fmt::Display for AccessText {
     }
 }
 
-#[derive(Clone, Copy)]
-struct DecisionText(Decision);
-
-impl fmt::Display for DecisionText {
-    fn fmt<W: fmt::Write>(&self, f: &mut fmt::Formatter<W>) -> fmt::Result {
-        match self.0 {
-            Decision::Granted(entry) => write!(f, "granted entry {}", Entry(u64::from(entry))),
-            Decision::Fault(cause, entry) => {
-                write!(f, "fault {cause} entry {}", Entry(u64::from(entry)))
-            }
-            Decision::Refused(refusal) => write!(f, "refused {}", u64::from(refusal)),
-        }
-    }
-}
-
-// The ranges that the map is read by, one a line.
+// The ranges that the map is read by, one a line. Here and below a line is written part by part, so that those for which there is room come out where the rest
+// cannot be written.
 fn show_map(rt: &impl Print, map: &Map) -> io::Result<()> {
     for range in &map.ranges[..map::count_read(map.count)] {
-        println!(rt; "{}", RangeText(*range))?;
+        let Range { first, last, owner } = *range;
+        print!(rt; "range {first:016x} {last:016x} ")?;
+        print!(rt; "{}", Entry(owner))?;
+        println!(rt)?;
     }
     Ok(())
+}
+
+fn show_decision(rt: &impl Print, decision: Decision) -> io::Result<()> {
+    let entry = match decision {
+        Decision::Granted(entry) => {
+            print!(rt; " granted")?;
+            entry
+        }
+        Decision::Fault(cause, entry) => {
+            print!(rt; " fault {cause}")?;
+            entry
+        }
+        Decision::Refused(refusal) => return print!(rt; " refused {}", u64::from(refusal)),
+    };
+    print!(rt; " entry ")?;
+    print!(rt; "{}", Entry(u64::from(entry)))
 }
 
 // One line: the query and its answer.
@@ -86,12 +80,12 @@ fn show_query(
     map: Map,
     (mode, access, address, size): (Mode, Access, u64, u64),
 ) -> io::Result<()> {
-    let decision = DecisionText(map::query(cfgs, map, mode, access, address, size));
-    println!(rt;
-        "query {} {} {address:016x} {size} {decision}",
-        ModeText(mode),
-        AccessText(access)
-    )
+    print!(rt; "query ")?;
+    print!(rt; "{} ", ModeText(mode))?;
+    print!(rt; "{} ", AccessText(access))?;
+    print!(rt; "{address:016x} {size}")?;
+    show_decision(rt, map::query(cfgs, map, mode, access, address, size))?;
+    println!(rt)
 }
 
 // W8 with permissions: entry 0 NA4 at 3 without any, entry 1 NAPOT 0x1FF with R and W.
