@@ -45,6 +45,6 @@ pub(crate) fn decision_words(decision: Decision) -> [u64; 4]
     match decision {
         Decision::Granted(entry) => [3, 0, 0, entry as u64],
         Decision::Fault(cause, entry) => [6, cause, 0, entry as u64],
-        Decision::Refused(refusal) => [5, u64::from(refusal), 0, 0],
+        Decision::Refused(refusal) => steps::refused_words(u64::from(refusal)),
     }
 }

@@ -70,4 +70,13 @@ four-numbers (Refused refusal) = (refl, refl)
 
 pub answers_numbered : Numbered
 answers_numbered =
-    record { refusals-numbered = refl; refusals-apart = refusals-apart; answers = answer_back; decisions = decision-back; four = four-numbers }
+    record {
+      refusals-numbered = refl;
+      refusals-apart = refusals-apart;
+      refused = λ number. refl;
+      refused-answer = λ refusal. refl;
+      refused-decision = λ refusal. refl;
+      answers = answer_back;
+      decisions = decision-back;
+      four = four-numbers;
+    }

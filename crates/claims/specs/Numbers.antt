@@ -10,7 +10,7 @@ use Rattle.steps.specs.declared.Trap.{Trap}
 use Rattle.steps.specs.declared.Trap.TheVariants.{Exception, Interrupt}
 use Rattle.steps.specs.declared.Answer.{Answer}
 use Rattle.steps.specs.declared.Answer.TheVariants.{Done, DoneValue, DoneFlag, Granted, Trapped, Refused}
-use Rattle.steps.specs.Number.{answer_numbers, decision_numbers}
+use Rattle.steps.specs.Number.{answer_numbers, refused_numbers, decision_numbers}
 
 -- interrupt cause is 2^63+i
 abbrev pub trap_of : ℕ → Trap
@@ -76,6 +76,10 @@ pub record Numbered : Type 0 where
   -- the numbers of the refusals, of which no two are one
   pub refusals-numbered : map refusal_number refusals ≡ 1 ∷ 2 ∷ 3 ∷ 4 ∷ 5 ∷ 6 ∷ 7 ∷ 8 ∷ 12 ∷ 13 ∷ []
   pub refusals-apart : (first second : Refusal) → refusal_number first ≡ refusal_number second → first ≡ second
+  -- the numbers of a refusal tell its kind and its number, whatever the number, and no entry
+  pub refused : (number : ℕ) → refused_numbers number ≡ 5 ∷ number ∷ 0 ∷ 0 ∷ []
+  pub refused-answer : (refusal : Refusal) → answer_numbers (Refused refusal) ≡ refused_numbers (refusal_number refusal)
+  pub refused-decision : (refusal : Refusal) → decision_numbers (Decision.Refused refusal) ≡ refused_numbers (refusal_number refusal)
   -- no exception's cause has bit 63, which marks an interrupt
   pub answers : (a : Answer) → exception_cause a < 2 ^ 63 → answer_of (answer_numbers a) ≡ a
   pub decisions : (d : Decision) → decision_of (decision_numbers d) ≡ d

@@ -44,6 +44,10 @@ answer_numbers (Granted entry) = 3 ∷ 0 ∷ 0 ∷ entry ∷ []
 answer_numbers (Trapped trap level entry) = 4 ∷ cause_number trap ∷ level_number level ∷ entry ∷ []
 answer_numbers (Refused refusal) = 5 ∷ refusal_number refusal ∷ 0 ∷ 0 ∷ []
 
+-- those of a refusal, by its number, whatever the number
+abbrev pub refused_numbers : ℕ → List ℕ
+refused_numbers number = 5 ∷ number ∷ 0 ∷ 0 ∷ []
+
 -- the same in words of 64 bits: the sum of an interrupt's cause wraps. No step answers with an interrupt, and then these are the numbers
 abbrev pub cause_word : Trap → ℕ
 cause_word (Exception c) = c

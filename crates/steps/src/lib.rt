@@ -7,6 +7,7 @@ mod from_numbers;
 mod numbers;
 
 pub use from_numbers::{Numbers, decode, name_steps, names_access};
+pub use numbers::refused_words;
 
 // What a CSR step does. `Read` is no write attempt; the other three are, even with operand 0.
 #[derive(Clone, Copy, Debug, PartialEq, Eq)]

@@ -1,6 +1,6 @@
 // The numbers of an answer's parts.
 ghost use Rattle.std.specs.Prelude.{◌≡◌};
-ghost use Rattle.steps.specs.Number.{level_number, cause_word, answer_words, refusal_of};
+ghost use Rattle.steps.specs.Number.{level_number, cause_word, answer_words, refused_numbers, refusal_of};
 
 use crate::{Answer, Level, Trap};
 use pmp::Refusal;
@@ -36,6 +36,13 @@ impl Answer {
     }
 }
 
+// The four words of a refusal by its number, whatever the number: an answer names the refusals of `pmp` alone.
+pub fn refused_words(number: u64) -> [u64; 4]
+    ensures { result ≡ refused_numbers number }
+{
+    [5, number, 0, 0]
+}
+
 // The four words of an answer.
 impl From<Answer> for [u64; 4] {
     ghost from_gives = { λ answer words. words ≡ answer_words answer };
@@ -49,7 +56,7 @@ impl From<Answer> for [u64; 4] {
             Answer::Trapped(trap, level, entry) => {
                 [4, u64::from(trap), u64::from(level), u64::from(entry)]
             }
-            Answer::Refused(refusal) => [5, u64::from(refusal), 0, 0],
+            Answer::Refused(refusal) => refused_words(u64::from(refusal)),
         }
     }
 }

@@ -11,9 +11,7 @@ use Rattle.trace.specs.declared.Session.{Session}
 use Rattle.trace.specs.declared.Written.{Written}
 use Rattle.trace.specs.Buffers.{Put, written_front, written_length}
 use Rattle.std.specs.Prelude.{Some, None}
-use Rattle.pmp.specs.declared.Refusal.{Refusal}
-use Rattle.pmp.specs.Number.{refusal_number}
-use Rattle.trace.specs.Answers.{refused_line}
+use Rattle.trace.specs.Answers.{refused_by_line}
 use Rattle.trace.specs.Replies.{Reply, reply_line, written}
 use Rattle.trace.specs.Reading.{Reading, after_bytes, replies_to}
 use Rattle.trace.specs.Feeding.{reading_of, reader_of, left_count, answerable, after_feed, FedBy}
@@ -171,10 +169,10 @@ module _ (s : Session) (before : List ℕ) where
       rw (h, e) (writing.written 4096 (text count) before after filled room (ending-length s.hart s.map count)
       (subst (λ (n : ℕ). Put before 0 (text n) after filled) l put))
 
-  pub finish_refused : (refusal : Refusal) (after : List ℕ) (filled : ℕ) → s.more ≡ false → 4096 ≤ length before → s.refusal ≡ Some refusal
-      → Put before 0 (refused_line refusal) after filled → Finishes s before after filled
+  pub finish_refused : (number : ℕ) (after : List ℕ) (filled : ℕ) → s.more ≡ false → 4096 ≤ length before → s.refusal ≡ Some number
+      → Put before 0 (refused_by_line number) after filled → Finishes s before after filled
   unfolding session_ending bytes_of
-  finish_refused refusal after filled h room e put =
-      let line = refused_line refusal in
-      let short : length line ≤ 4096 = omega (arith, writing.numbered_length (bytes_of "refused ") (refusal_number refusal)) in
+  finish_refused number after filled h room e put =
+      let line = refused_by_line number in
+      let short : length line ≤ 4096 = omega (arith, writing.numbered_length (bytes_of "refused ") number) in
       rw (h, e) (writing.written 4096 line before after filled room short put)

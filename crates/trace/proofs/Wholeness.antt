@@ -3,8 +3,9 @@ use Rattle.std.proofs.Common.{◌≡◌, ℕ, ◌<◌, min, Bool, true, false, c
 use mathlib.Core.Bool.{and-false}
 use Rattle.bits.specs.Fold.{fold, outputs}
 use Rattle.bits.proofs.FoldLaws.{fold_append, outputs_append}
-use Rattle.std.specs.Prelude.{is_none, Some, None}
+use Rattle.std.specs.Prelude.{is_none, option_map, Some, None}
 use Rattle.pmp.specs.declared.Refusal.{Refusal}
+use Rattle.pmp.specs.Number.{refusal_number}
 use Rattle.steps.specs.Number.{refusal_of}
 use Rattle.steps.specs.declared.Answer.TheVariants.{Done, Refused}
 use Rattle.paging.specs.Memory.{Memory}
@@ -15,7 +16,7 @@ use Rattle.hart.specs.declared.Hart.{Hart}
 use Rattle.hart.specs.Steps.{reset_mapped, handed_back}
 use Rattle.hart.specs.Saved.{read_anew}
 use Rattle.trace.specs.declared.Session.{Session}
-use Rattle.trace.specs.Answers.{refused_line}
+use Rattle.trace.specs.Answers.{refused_by_line, refused_line}
 use Rattle.trace.specs.Replies.{reply_line, written}
 use Rattle.trace.specs.Reading.{Reading, after_byte, byte_replies, after_bytes, replies_to}
 use Rattle.trace.specs.Feeding.{left_count}
@@ -34,9 +35,9 @@ ending-written : (s : Session) → s.more ≡ false → s.refusal ≡ None → s
 unfolding session_ending
 ending-written s h z = rw (h, z)
 
-refusal_written : (s : Session) (refusal : Refusal) → s.more ≡ false → s.refusal ≡ Some refusal → session_ending s ≡ refused_line refusal
+refusal_written : (s : Session) (number : ℕ) → s.more ≡ false → s.refusal ≡ Some number → session_ending s ≡ refused_by_line number
 unfolding session_ending
-refusal_written s refusal h e = rw (h, e)
+refusal_written s number h e = rw (h, e)
 
 none_written : (s : Session) → s.more ≡ true → session_ending s ≡ []
 unfolding session_ending
@@ -72,10 +73,10 @@ either_form : (form : Form) (text : List ℕ) → (read_text form text).ok ≡ t
 either_form form text e = ap (λ (f : Form). read_anew f text) (form-read form text e)
 
 refused-text : (text : List ℕ) (refusal : Refusal) → (from_text text).answer ≡ Refused refusal
-    → ((text_session text).more ≡ false) × ((text_session text).refusal ≡ Some refusal)
+    → ((text_session text).more ≡ false) × ((text_session text).refusal ≡ Some (refusal_number refusal))
 refused-text text refusal e = (
-  ap (λ (t : Session). t.more) (text-read text) ∙ (λ j. is_none (refusal_of (e j))),
-  ap (λ (t : Session). t.refusal) (text-read text) ∙ (λ j. refusal_of (e j)),
+  ap (λ (t : Session). t.more) (text-read text) ∙ (λ j. is_none (option_map refusal_number (refusal_of (e j)))),
+  ap (λ (t : Session). t.refusal) (text-read text) ∙ (λ j. option_map refusal_number (refusal_of (e j))),
 )
 
 module _ (m : Memory) where
@@ -192,15 +193,15 @@ module _ (m : Memory) where
       → all_written m s (full ++ last ∷ []) ≡ replayed m (unread h map) (joined full last)
   begun-whole s h map full last e f l = (λ j. all_written m (e j) (full ++ last ∷ [])) ∙ whole (begun h map) full last refl refl f l
 
-  refused-writes : (s : Session) (pieces : List (List ℕ)) (refusal : Refusal) → s.more ≡ false → s.refusal ≡ Some refusal
-      → all_written m s pieces ≡ refused_line refusal
-  refused-writes s ps refusal h e = ended-writes s h ps ∙ refusal_written s refusal h e
+  refused-writes : (s : Session) (pieces : List (List ℕ)) (number : ℕ) → s.more ≡ false → s.refusal ≡ Some number
+      → all_written m s pieces ≡ refused_by_line number
+  refused-writes s ps number h e = ended-writes s h ps ∙ refusal_written s number h e
 
   text-refused : (text : List ℕ) (refusal : Refusal) (pieces : List (List ℕ)) → (from_text text).answer ≡ Refused refusal
       → all_written m (text_session text) pieces ≡ refused_line refusal
   text-refused text refusal ps e =
       let r = refused-text text refusal e in
-      refused-writes (text_session text) ps refusal r.0 r.1
+      refused-writes (text_session text) ps (refusal_number refusal) r.0 r.1
 
   pub in_pieces : InPieces m
   in_pieces = record {

@@ -54,8 +54,12 @@ abbrev pub trapped_line : Bool → Trap → Level → ℕ → List ℕ
 trapped_line accessed trap level entry =
     bytes_of "trapped " ++ (trap_text trap ++ (bytes_of " to " ++ (level_text level ++ (told_text accessed entry ++ bytes_of "\n"))))
 
+-- by its number, whatever the number
+abbrev pub refused_by_line : ℕ → List ℕ
+refused_by_line number = numbered_line (bytes_of "refused ") number
+
 abbrev pub refused_line : Refusal → List ℕ
-refused_line refusal = numbered_line (bytes_of "refused ") (refusal_number refusal)
+refused_line refusal = refused_by_line (refusal_number refusal)
 
 -- the line of an answer, to a step that is an access or to another
 unfoldable pub answer_line : Bool → Answer → List ℕ

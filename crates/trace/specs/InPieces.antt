@@ -2,6 +2,7 @@
 -- record (02, [8]).
 use Rattle.std.specs.Prelude.{◌≡◌, ℕ, ◌<◌, true, false, List, [], ◌∷◌, ◌++◌, length, ◌≢◌, Some, None}
 use Rattle.pmp.specs.declared.Refusal.{Refusal}
+use Rattle.pmp.specs.Number.{refusal_number}
 use Rattle.steps.specs.declared.Answer.TheVariants.{Done, Refused}
 use Rattle.paging.specs.Memory.{Memory}
 use Rattle.map.specs.declared.Map.{Map}
@@ -12,7 +13,7 @@ use Rattle.text.specs.declared.Form.{Form}
 use Rattle.text.specs.Text.{read_text}
 use Rattle.hart.specs.Saved.{read_anew}
 use Rattle.trace.specs.declared.Session.{Session}
-use Rattle.trace.specs.Answers.{refused_line}
+use Rattle.trace.specs.Answers.{refused_by_line, refused_line}
 use Rattle.trace.specs.Replies.{reply_line, written}
 use Rattle.trace.specs.Reading.{Reading, reading, after_bytes, replies_to}
 use Rattle.trace.specs.Feeding.{new_reader}
@@ -55,8 +56,8 @@ pub record InPieces (m : Memory) : Type 0 where
   -- before it there is no ending
   pub unended : (start : Session) (pieces : List (List ℕ)) → (after_pieces m start pieces).more ≡ true → session_ending (after_pieces m start pieces) ≡ []
   -- a refused text's line is all that is written
-  pub refused : (start : Session) (pieces : List (List ℕ)) (refusal : Refusal) → start.more ≡ false → start.refusal ≡ Some refusal
-      → all_written m start pieces ≡ refused_line refusal
+  pub refused : (start : Session) (pieces : List (List ℕ)) (number : ℕ) → start.more ≡ false → start.refusal ≡ Some number
+      → all_written m start pieces ≡ refused_by_line number
   -- a piece leaves what its bytes leave
   pub read : (s : Session) (piece : List ℕ) → s.more ≡ true → reading_in (after_piece m s piece) ≡ after_bytes m (reading_in s) piece
   -- after a broken record no more is read
@@ -74,9 +75,9 @@ pub record InPieces (m : Memory) : Type 0 where
   pub from-text : (text : List ℕ) (h : Hart) (map : Map) → from_text text ≡ handed_back h map Done → text_session text ≡ begun h map
   -- a text in either form is read in that form (02, [10])
   pub either_form : (form : Form) (text : List ℕ) → (read_text form text).ok ≡ true → from_text text ≡ read_anew form text
-  -- a refused text ends its session at once, with the refusal
+  -- a refused text ends its session at once, with the number of the refusal
   pub refused-text : (text : List ℕ) (refusal : Refusal) → (from_text text).answer ≡ Refused refusal
-      → ((text_session text).more ≡ false) × ((text_session text).refusal ≡ Some refusal)
+      → ((text_session text).more ≡ false) × ((text_session text).refusal ≡ Some (refusal_number refusal))
   -- so a trace from reset writes what it gives at once from the reset state
   pub reset-whole : (full : List (List ℕ)) (last : List ℕ) → AllFull full → length last < 61440
       → all_written m reset_session (full ++ last ∷ []) ≡ replayed m (unread (reset_mapped 0).hart (reset_mapped 0).map) (joined full last)

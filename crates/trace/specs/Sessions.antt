@@ -1,7 +1,7 @@
 -- A replay whose trace comes in pieces: what is kept from piece to piece, the lines that each piece gives out, and what is written at the end.
 use Rattle.std.specs.Prelude.{ℕ, ◌+◌, ◌*◌, ◌/◌, cond, not, ◌&&◌, List, [], ◌++◌, length, ◌==◌, nat_lt, is_none, Option, None, unwrap_or, option_map}
 use Rattle.bits.specs.Fold.{fold, outputs}
-use Rattle.pmp.specs.declared.Refusal.{Refusal}
+use Rattle.pmp.specs.Number.{refusal_number}
 use Rattle.steps.specs.Number.{refusal_of}
 use Rattle.paging.specs.Memory.{Memory}
 use Rattle.map.specs.declared.Map.{Map}
@@ -12,15 +12,15 @@ use Rattle.hart.specs.Saved.{read_anew}
 use Rattle.trace.specs.declared.Session.{Session}
 use Rattle.trace.specs.declared.Written.{Written}
 use Rattle.trace.specs.Buffers.{written_length}
-use Rattle.trace.specs.Answers.{refused_line}
+use Rattle.trace.specs.Answers.{refused_by_line}
 use Rattle.trace.specs.Replies.{reply_line, written}
 use Rattle.trace.specs.Reading.{Reading, after_bytes, replies_to}
 use Rattle.trace.specs.Feeding.{new_reader, left_count, reading_of, reader_of}
 use Rattle.trace.specs.SavedTexts.{form_by_length}
 use Rattle.trace.specs.Endings.{ending}
 
--- a session that starts with a hart and its map; a refusal has ended it
-abbrev pub session_from : Hart → Map → Option Refusal → Session
+-- a session that starts with a hart and its map; a refusal, told by its number, has ended it
+abbrev pub session_from : Hart → Map → Option ℕ → Session
 session_from h map refusal = record {
   reader = new_reader;
   hart = h;
@@ -35,7 +35,7 @@ reset_session = session_from (reset_mapped 0).hart (reset_mapped 0).map None
 
 -- 01, "Saved text", and 02, [10]: what reading a text of either form back gives; a refused text starts nothing
 abbrev pub read_session : Stepped → Session
-read_session read = session_from read.hart read.map (refusal_of read.answer)
+read_session read = session_from read.hart read.map (option_map refusal_number (refusal_of read.answer))
 
 unfoldable pub text_session : List ℕ → Session
 text_session text = read_session (read_anew (form_by_length text) text)
@@ -66,7 +66,7 @@ piece_room piece = 64 * (length piece / 60 + 1)
 unfoldable pub session_ending : Session → List ℕ
 session_ending s =
     cond s.more []
-    (unwrap_or (option_map refused_line s.refusal) (ending s.hart s.map (left_count s.reader.stopped s.reader.count)))
+    (unwrap_or (option_map refused_by_line s.refusal) (ending s.hart s.map (left_count s.reader.stopped s.reader.count)))
 
 -- every record of every piece is lent the same memory (02, [8])
 module _ (m : Memory) where

@@ -4,7 +4,6 @@
 use engine::Told;
 use hart::Hart;
 use map::Map;
-use pmp::Refusal;
 
 mod batch;
 mod ending;
@@ -76,14 +75,14 @@ pub(crate) struct Opening {
 }
 
 // What goes on from one piece of a trace to the next in a program: the reader with its hart and map, whether there may be more input, and the refusal of
-// the text it started from, if any.
+// the text it started from, if any. It stays a number: `feed` and `finish` promise what they do whatever number a caller puts there.
 #[derive(Clone, Copy)]
 pub struct Session {
     pub reader: Reader,
     pub hart: Hart,
     pub map: Map,
     pub more: bool,
-    pub refusal: Option<Refusal>,
+    pub refusal: Option<u64>,
 }
 
 // What feeding a piece leaves, and how many bytes of lines it wrote.

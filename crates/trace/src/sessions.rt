@@ -1,5 +1,7 @@
 // A trace in pieces, for a program: what goes on from one piece to the next, and what is written for each.
-ghost use Rattle.std.specs.Prelude.{◌≡◌, ◌≤◌, length};
+ghost use Rattle.std.specs.Prelude.{◌≡◌, ◌≤◌, length, option_map};
+ghost use Rattle.pmp.specs.Number.{refusal_number};
+ghost use Rattle.steps.specs.Number.{refusal_of};
 ghost use Rattle.paging.specs.Memory.{memory_of};
 ghost use Rattle.trace.specs.Buffers.{written_front, written_length};
 ghost use Rattle.trace.specs.Sessions.{session_from, reset_session, text_session, fed_piece, piece_lines, piece_room, session_ending};
@@ -7,14 +9,21 @@ ghost use Rattle.trace.specs.Sessions.{session_from, reset_session, text_session
 use crate::ending::put_ending;
 use crate::feeding::{handed_back, read};
 use crate::saved::form_by_length;
-use crate::writer::put_refused;
+use crate::writer::put_numbered;
 use crate::{Reader, Session, Written};
 use hart::Hart;
 use map::Map;
 use paging::Memory;
-use pmp::Refusal;
+use steps::Answer;
 
-fn session_from(hart: Hart, map: Map, refusal: Option<Refusal>) -> Session
+// The number of an answer's refusal, if it is one.
+fn refusal_number(answer: Answer) -> Option<u64>
+    ensures { result ≡ option_map refusal_number (refusal_of answer) }
+{
+    answer.refusal().map(u64::from)
+}
+
+fn session_from(hart: Hart, map: Map, refusal: Option<u64>) -> Session
     ensures { result ≡ session_from hart map refusal }
 {
     Session {
@@ -42,7 +51,8 @@ impl Session {
         let reset = Hart::reset(0);
         let form = form_by_length(text);
         let read = reset.hart.restore(reset.map, form, text);
-        session_from(read.hart, read.map, read.answer.refusal())
+        let refusal = refusal_number(read.answer);
+        session_from(read.hart, read.map, refusal)
     }
 
     // Feeds a piece to the reader, lends each record the memory, and writes the lines to the front of a buffer that has 64 bytes for each record that the
@@ -100,7 +110,7 @@ impl Session {
         }
         match self.refusal {
             None => put_ending(self.hart, self.map, self.reader.left(), out),
-            Some(refusal) => put_refused(refusal, out, 0),
+            Some(number) => put_numbered(b"refused ", number, out, 0),
         }
     }
 }

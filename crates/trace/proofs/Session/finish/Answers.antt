@@ -33,8 +33,8 @@ returns-in-None c = let a = c.args in
 pub returns-in-Some : goal.returns-in-Some
 unfolding bytes_of
 returns-in-Some c = let a = c.args in
-    let both = finish_refused a.self a.out.now _ c.put_refused.new.out c.put_refused.result c.if-self.false c.if-out-lt4096.false c.in-Some.is
-    c.put_refused.ensures in
+    let both = finish_refused a.self a.out.now _ c.put_numbered.new.out c.put_numbered.result c.if-self.false c.if-out-lt4096.false c.in-Some.is
+    c.put_numbered.ensures in
     record {
       value = both.0;
       out_after = both.1.0;
