@@ -22,7 +22,11 @@ are_digits (suc n) t p = eqb (get_or t p 0) (hex_digit (digit_value (get_or t p 
 unfoldable pub is_word : List ℕ → ℕ → Bool
 is_word t p = has_room (length t) p 17 && (are_digits 16 t p && eqb (get_or t (p + 16) 0) 10)
 
--- their word
+-- the number that the sixteen bytes give as digits, whether they are digits or not; 0 where a word has no room
+unfoldable pub number_given : List ℕ → ℕ → ℕ
+number_given t p = cond (has_room (length t) p 17) (number_at 16 0 t p) 0
+
+-- the word of the digits
 unfoldable pub word_at : List ℕ → ℕ → Option ℕ
 word_at t p = cond (is_word t p) (Some (number_at 16 0 t p)) None
 

@@ -3,9 +3,9 @@
 
 ghost use Rattle.std.specs.Prelude.{◌≡◌, ◌+◌, ◌≤◌, ◌<◌, ◌%◌, length};
 ghost use Rattle.std.proofs.lemmas.List.Edits.{sets};
-ghost use Rattle.lines.specs.Lines.{hex_digit, hex_digits, digit_value};
+ghost use Rattle.lines.specs.Lines.{hex_digit, hex_digits, digit_value, number_at};
 ghost use Rattle.lines.specs.Places.{has_room, with_word, with_words};
-ghost use Rattle.lines.specs.Fields.{has_key, word_at, line_at};
+ghost use Rattle.lines.specs.Fields.{has_key, are_digits, number_given, word_at, line_at};
 
 // The lower-case hexadecimal digit of the lowest four bits.
 fn hex_digit(number: u64) -> u8
@@ -83,14 +83,12 @@ pub fn has_key(text: &[u8], place: usize, key: &[u8]) -> bool
     same
 }
 
-// Reads the sixteen digits and the line feed from a place on, if they stand there.
-#[tactic(auto, unfolding(crate::specs::Fields::is_word, crate::specs::Fields::word_at))]
-pub fn read_word(text: &[u8], place: usize) -> Option<u64>
-    ensures { result ≡ word_at text.now place }
+// The number that sixteen bytes give as digits, and whether they are digits.
+fn digits_at(text: &[u8], place: usize) -> (u64, bool)
+    requires { place + 16 ≤ length text.now }
+    ensures number { result.0 ≡ number_at 16 0 text.now place }
+    ensures digits { result.1 ≡ are_digits 16 text.now place }
 {
-    if !has_room(text.len(), place, 17) {
-        return None;
-    }
     let mut ok = true;
     let mut word: u64 = 0;
     for j in 0..16 {
@@ -99,6 +97,30 @@ pub fn read_word(text: &[u8], place: usize) -> Option<u64>
         ok = ok & (byte == hex_digit(value));
         word = word * 16 + value;
     }
+    (word, ok)
+}
+
+// The number that the sixteen bytes from a place on give as digits, whether a word stands there or not. Where a word has no room, it is 0.
+#[tactic(auto, unfolding(crate::specs::Fields::number_given))]
+pub fn number_at(text: &[u8], place: usize) -> u64
+    ensures { result ≡ number_given text.now place }
+{
+    if !has_room(text.len(), place, 17) {
+        return 0;
+    }
+    digits_at(text, place).0
+}
+
+// Reads the sixteen digits and the line feed from a place on, if they stand there.
+#[tactic(auto, unfolding(crate::specs::Fields::is_word, crate::specs::Fields::word_at))]
+pub fn read_word(text: &[u8], place: usize) -> Option<u64>
+    ensures { result ≡ word_at text.now place }
+{
+    if !has_room(text.len(), place, 17) {
+        return None;
+    }
+    let (word, digits) = digits_at(text, place);
+    let mut ok = digits;
     ok = ok & (text[place + 16] == b'\n');
     if ok { Some(word) } else { None }
 }

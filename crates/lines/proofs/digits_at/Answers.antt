@@ -1,11 +1,10 @@
 use Rattle.lines.proofs.Digits.{read_more, read_all, number_fits}
 use Rattle.lines.specs.Lines.{hex_digit, digit_value}
-use Rattle.lines.specs.Fields.{is_word, word_at}
 use lib.ListN.{get_or}
 use Prim.Native.Nat.{◌+◌, ◌%◌}
 use mathlib.Core.Path.{◌≡◌, sym, ap, ◌∙◌}
 use native.Mathlib.Omega.{arith}
-use Rattle.lines.proofs.read_word.Goals as goal
+use Rattle.lines.proofs.digits_at.Goals as goal
 
 pub overflow_mul-word : goal.overflow_mul-word
 overflow_mul-word c = let l = c.loop-j in omega (arith, (number_fits l.j l.word c.digit_value-value.result (omega arith) l.invariant.below (omega arith)).1)
@@ -28,10 +27,12 @@ loop-j-preserved c =
       digits = l.invariant.digits ∙ m.1 ∙ rw (← d);
     }
 
-pub returns-then-ok : goal.returns-then-ok
-unfolding is_word word_at
-returns-then-ok c =
+pub returns-clause-number : goal.returns-clause-number
+returns-clause-number c =
     let l = c.loop-j in
-    let e = read_all c.args.text.now c.args.place l.word l.ok l.j c.loop-j-test.false in
-    let room = sym c.has_room.ensures ∙ c.if-not-has_room.false in
-    rw (room, l.invariant.number, l.invariant.digits, e.0, e.1, c.if-ok.true)
+    sym (l.invariant.number ∙ (read_all c.args.text.now c.args.place l.word l.ok l.j c.loop-j-test.false).0)
+
+pub returns-clause-digits : goal.returns-clause-digits
+returns-clause-digits c =
+    let l = c.loop-j in
+    sym (l.invariant.digits ∙ (read_all c.args.text.now c.args.place l.word l.ok l.j c.loop-j-test.false).1)

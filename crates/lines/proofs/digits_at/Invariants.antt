@@ -3,7 +3,7 @@ use Rattle.lines.specs.Fields.{are_digits}
 use Prim.Native.Nat.{◌+◌, ◌-◌, ◌*◌, ◌^◌, ◌<◌}
 use mathlib.Core.Bool.{◌&&◌}
 use mathlib.Core.Path.{◌≡◌}
-use Rattle.lines.proofs.read_word.Given as goal
+use Rattle.lines.proofs.digits_at.Given as goal
 
 abbrev pub invariant-loop-j : goal.invariant-loop-j
 invariant-loop-j l = record {
