@@ -6,7 +6,7 @@ use mathlib.Core.Bool.{Bool, true, false, cond, not, ◌&&◌, ◌||◌}
 use native.Mathlib.Omega.{arith}
 use lib.Dec.{eqb, leb, ltb}
 use lib.ListN.{length, get_or, length-set}
-use borrow.Author.Tests.{eqb-true, leb-true, ltb-false, le-ltb, eq-eqb, ne_eqb}
+use borrow.Author.Tests.{eqb-true, leb-true, ltb-false, lt-ltb, le-ltb, eq-eqb, ne_eqb}
 use Rattle.bits.proofs.Conjunction.{by_test}
 use Rattle.steps.specs.declared.Step.{Step}
 use Rattle.ledger.specs.Numbers.{numbers_of}
@@ -17,16 +17,28 @@ use Rattle.std.specs.Result.{result_err, result_unwrap_or}
 use Rattle.ledger.specs.declared.Posting.{Posting}
 use Rattle.ledger.specs.declared.Refusal.{Refusal}
 use Rattle.ledger.specs.declared.Refusal.TheVariants.{Tenant, Total}
-use Rattle.ledger.specs.Rules.{ledger_with, total_of, account_of, overfull, refusal_by, credited, answers_no, changed, posted, unless, settled, Room, Fits}
+use Rattle.ledger.specs.Rules.{ledger_with, total_of, account_of, overfull, names_tenant, refusal_by, credited, answers_no, changed, posted, unless, settled, Room, Fits}
 
--- ---- the steps that are not refused: a reset, and those other than 17 and 18 where the tenant is not above 7
+-- ---- the refusals: none at a reset; 9 by the ledger; then 9 by step 18's arguments, or 10 at an elapsed step; none at any other
 
 module _ (l : Ledger) (step a b mode : ℕ) where
   pub refusal_reset : step ≡ 0 → refusal_by l step a b mode ≡ None
   unfolding refusal_by
   refusal_reset z = rw (eq-eqb step 0 z)
 
+  pub refusal_above : (step ≡ 0 → ⊥) → 7 < l.tenant → refusal_by l step a b mode ≡ Some Tenant
+  unfolding refusal_by
+  refusal_above later h = rw (ne_eqb step 0 later, lt-ltb 7 l.tenant h)
+
 module _ (l : Ledger) (step a b mode : ℕ) (later : step ≡ 0 → ⊥) (small : l.tenant ≤ 7) where
+  pub refusal_named : step ≡ 18 → refusal_by l step a b mode ≡ cond (names_tenant a b) None (Some Tenant)
+  unfolding refusal_by
+  refusal_named e = rw (ne_eqb step 0 later, le-ltb 7 l.tenant small, eq-eqb step 18 e)
+
+  pub refusal_elapsed : step ≡ 17 → refusal_by l step a b mode ≡ cond (overfull l mode a) (Some Total) None
+  unfolding refusal_by
+  refusal_elapsed e = rw (ne_eqb step 0 later, le-ltb 7 l.tenant small, ne_eqb step 18 (omega arith), eq-eqb step 17 e)
+
   pub refusal_other : (step ≡ 18 → ⊥) → (step ≡ 17 → ⊥) → refusal_by l step a b mode ≡ None
   unfolding refusal_by
   refusal_other h k = rw (ne_eqb step 0 later, le-ltb 7 l.tenant small, ne_eqb step 18 h, ne_eqb step 17 k)
